@@ -1,0 +1,16 @@
+mod Adding
+mod Agreeing
+mod Binding
+mod Faults
+mod Finding
+mod Fronts
+mod Meeting
+mod Naming
+mod Numbering
+mod Ones
+mod Pushes
+mod Putting
+mod Rules
+mod Starts
+mod Walks
+mod Working

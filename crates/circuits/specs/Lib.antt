@@ -1,0 +1,10 @@
+pub mod Tables
+pub mod Kinds
+pub mod Names
+pub mod Pins
+pub mod Patterns
+pub mod Circuits
+pub mod Lines
+pub mod Specification
+pub mod Legality
+pub mod Drafts

@@ -1,0 +1,9 @@
+//! What a pattern asks of one input.
+
+/// What a pattern asks of one input: `0`, `1`, or `-` for either.
+#[derive(Clone, Copy, PartialEq, Eq, Debug)]
+pub enum Literal {
+    Zero,
+    One,
+    Dash,
+}
