@@ -10,6 +10,7 @@ mod Numbering
 mod Ones
 mod Pushes
 mod Putting
+mod Repairing
 mod Rules
 mod Starts
 mod Walks

@@ -5,7 +5,7 @@ use mathlib.Core.Path.{_≡_}
 use Prim.Native.Nat.{ℕ, zero, suc, _+_, _<_}
 use lib.Dec.{eqb, ltb}
 use lib.ListN.{length, take}
-use Rattle.std.specs.Options.{mapped}
+use Rattle.std.specs.Options.{mapped, valueOr}
 use Rattle.std.specs.Runs.{nth}
 use Rattle.std.specs.declared.option.Option.{Option}
 use Rattle.std.specs.declared.option.Option.the-variants.{Some, None}
@@ -16,6 +16,7 @@ use Rattle.circuits.specs.declared.place.Place.{Place}
 use Rattle.circuits.specs.declared.row.Pattern.{Pattern}
 use Rattle.circuits.specs.declared.row.SpecRow.{SpecRow}
 use Rattle.circuits.specs.Kinds.{differ}
+use Rattle.circuits.specs.Lines.{place-of, place-bit}
 use Rattle.circuits.specs.Circuits.{Net, bit, assignments, carried, through, with-bit}
 
 -- the literals of a pattern, one for each input
@@ -107,3 +108,11 @@ contradicts r s = (eqb (r .output) (s .output) && differ (r .value) (s .value)) 
 abbrev pub Repairs : Net → List SpecRow → Place → (ℕ → Bool) → Type 0
 Repairs c rows p φ =
     (a : ℕ) → a < assignments c → (k : ℕ) (x : Output) → nth (c .outputs) k ≡ Some x → obeys (bound rows k a) (output-bit (with-bit c p (φ a) a) x) ≡ true
+
+-- what a place carries, as a function of the inputs
+abbrev pub carried-by : Net → Place → ℕ → Bool
+carried-by c p a = valueOr (place-bit c (carried c a) p) false
+
+-- What each line carries repairs it.
+abbrev pub Repaired : Net → List SpecRow → Type 0
+Repaired c rows = (l : ℕ) (p : Place) → place-of c l ≡ Some p → Repairs c rows p (carried-by c p)

@@ -10,7 +10,7 @@ ghost use Rattle.circuits.specs.declared.gate.Output.{Output};
 ghost use Rattle.circuits.specs.Circuits.{carried, through};
 ghost use Rattle.circuits.specs.Drafts.{design-parts};
 ghost use Rattle.circuits.specs.Lines.{stem-count};
-ghost use Rattle.circuits.specs.Specification.{bound, obeys, meets, misses, Obeyed};
+ghost use Rattle.circuits.specs.Specification.{bound, obeys, meets, misses, Obeyed, Repaired};
 use crate::design::Design;
 use crate::pin::Pin;
 use crate::row::bound_value;
@@ -54,9 +54,10 @@ impl Design {
         }
     }
 
-    /// How many outputs do not meet their rows.
+    /// How many outputs do not meet their rows. None does where what each line carries repairs it, and only there.
     pub fn misses(&self) -> usize
-        ensures { λ r. ⌜ r ≡ misses (design-parts (now (self .entry)) .circuit) (design-parts (now (self .entry)) .rows) ⌝ }
+        ensures repaired { λ r. ⌜ (r ≡ 0) ↔ Repaired (design-parts (now (self .entry)) .circuit) (design-parts (now (self .entry)) .rows) ⌝ }
+        ensures value { λ r. ⌜ r ≡ misses (design-parts (now (self .entry)) .circuit) (design-parts (now (self .entry)) .rows) ⌝ }
     {
         let mut count = 0;
         for output in 0..self.circuit.outputs.len() {

@@ -4,6 +4,7 @@ use native.Mathlib.Nat.{add-zero}
 use native.Mathlib.Omega.{arith}
 use Rattle.circuits.specs.Drafts.{design-parts}
 use Rattle.circuits.proofs.Binding.{missed-none, missed-more, missed-all}
+use Rattle.circuits.proofs.Repairing.{misses-repaired}
 use Rattle.circuits.proofs.design.Design.misses.Needs as need
 use Rattle.circuits.proofs.design.Design.misses.Needs.{then-is-missed, else-is-missed}
 
@@ -26,4 +27,5 @@ pub returns : need.returns
 returns c =
     let d = design-parts (c .args .self .now) in
     let e = c .args .self .now .circuit .outputs .ok .0 in
-    missed-all (d .circuit) (d .rows) (c .loop-output .output) (c .loop-output .count) (omega (arith, e, c .len-output-end .ensures)) (c .loop-output .inv)
+    let value = missed-all (d .circuit) (d .rows) (c .loop-output .output) (c .loop-output .count) (omega (arith, e, c .len-output-end .ensures)) (c .loop-output .inv) in
+    record { repaired = misses-repaired (d .circuit) (d .rows) (c .loop-output .count) (c .args .self .now .lawful) value; value = value }
