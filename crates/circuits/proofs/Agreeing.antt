@@ -26,17 +26,12 @@ use Rattle.circuits.proofs.Rules.{Rules}
 
 -- two literals that match one bit
 both-match : (l m : Literal) (b : Bool) → matches l b ≡ true → matches m b ≡ true → overlap l m ≡ true
-both-match Zero Zero b h k = refl
-both-match Zero One true h k = let z : ⊥ = false≢true h in absurd z
-both-match Zero One false h k = let z : ⊥ = false≢true k in absurd z
-both-match Zero Dash b h k = refl
-both-match One Zero true h k = let z : ⊥ = false≢true k in absurd z
-both-match One Zero false h k = let z : ⊥ = false≢true h in absurd z
-both-match One One b h k = refl
-both-match One Dash b h k = refl
-both-match Dash Zero b h k = refl
-both-match Dash One b h k = refl
-both-match Dash Dash b h k = refl
+both-match Zero m true h k = let z : ⊥ = false≢true h in absurd z
+both-match Zero m false h k = k
+both-match One m true h k = k
+both-match One m false h k = let z : ⊥ = false≢true h in absurd z
+both-match Dash m true h k = refl
+both-match Dash m false h k = refl
 
 -- two patterns that cover one assignment
 both-cover : (ls ms : List Literal) (a : ℕ) → length ls ≡ length ms → covers ls a ≡ true → covers ms a ≡ true → meet ls ms ≡ true

@@ -83,15 +83,9 @@ misses c rows = misses-from c rows 0 (c .outputs)
 
 -- whether two literals match a common bit
 abbrev pub overlap : Literal → Literal → Bool
-overlap Zero Zero = true
-overlap Zero One = false
-overlap Zero Dash = true
-overlap One Zero = false
-overlap One One = true
-overlap One Dash = true
-overlap Dash Zero = true
-overlap Dash One = true
-overlap Dash Dash = true
+overlap Zero m = matches m false
+overlap One m = matches m true
+overlap Dash m = true
 
 -- whether two patterns match a common assignment
 unfoldable pub meet : List Literal → List Literal → Bool

@@ -6,7 +6,7 @@ ghost use lib.ListN.{length};
 ghost use Rattle.circuits.specs.Kinds.{fits, gate-bit, ones};
 
 /// What a gate makes of the bits that its pins receive.
-#[derive(Clone, Copy, PartialEq, Eq, Debug)]
+#[derive(Clone, Copy)]
 pub enum Kind {
     And,
     Nand,
@@ -19,8 +19,8 @@ pub enum Kind {
 }
 
 impl Kind {
-    /// Whether a gate of this kind may have this many pins.
-    pub fn takes(self, pins: usize) -> bool
+    // Whether a gate of this kind may have this many pins.
+    pub(crate) fn takes(self, pins: usize) -> bool
         ensures { λ r. ⌜ r ≡ fits self pins ⌝ }
     {
         match self {

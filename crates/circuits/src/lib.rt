@@ -1,5 +1,6 @@
 //! Circuits of gates, their lines, and the rows that their outputs have to meet.
 mod circuit;
+mod counts;
 mod design;
 mod draft;
 mod fault;
@@ -12,6 +13,7 @@ mod place;
 mod row;
 
 pub use circuit::Circuit;
+pub use counts::Counts;
 pub use design::Design;
 pub use draft::Draft;
 pub use fault::PartFault;

@@ -15,8 +15,8 @@ use crate::pin::Pin;
 use crate::place::Place;
 
 impl Design {
-    /// How many assignments there are: 2 to the number of inputs.
-    pub fn assignments(&self) -> usize
+    // How many assignments there are: 2 to the number of inputs.
+    pub(super) fn assignments(&self) -> usize
         ensures { λ r. ⌜ r ≡ assignments (design-parts (now (self .entry)) .circuit) ⌝ }
     {
         1 << self.circuit.inputs.len()

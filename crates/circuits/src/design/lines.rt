@@ -9,33 +9,27 @@ ghost use Rattle.std.specs.declared.option.Option.the-variants.{Some};
 ghost use Rattle.circuits.specs.declared.place.Place.{Place};
 ghost use Rattle.circuits.specs.Drafts.{design-parts};
 ghost use Rattle.circuits.specs.Lines.{stem-count, line-count, line-of, place-of};
+use crate::counts::Counts;
 use crate::design::Design;
 use crate::place::Place;
 
 impl Design {
-    /// How many inputs there are.
-    pub fn inputs(&self) -> usize
-        ensures { λ r. ⌜ r ≡ length (design-parts (now (self .entry)) .circuit .inputs) ⌝ }
+    /// How many inputs, gates and outputs there are.
+    pub fn counts(&self) -> Counts
+        ensures { λ r. ⌜ r ≡ record { inputs = length (design-parts (now (self .entry)) .circuit .inputs); gates = length (design-parts (now (self .entry)) .circuit .gates); outputs = length (design-parts (now (self .entry)) .circuit .outputs) } ⌝ }
     {
-        self.circuit.inputs.len()
+        let inputs = self.circuit.inputs.len();
+        let gates = self.circuit.gates.len();
+        let outputs = self.circuit.outputs.len();
+        Counts {
+            inputs,
+            gates,
+            outputs,
+        }
     }
 
-    /// How many gates there are.
-    pub fn gates(&self) -> usize
-        ensures { λ r. ⌜ r ≡ length (design-parts (now (self .entry)) .circuit .gates) ⌝ }
-    {
-        self.circuit.gates.len()
-    }
-
-    /// How many outputs there are.
-    pub fn outputs(&self) -> usize
-        ensures { λ r. ⌜ r ≡ length (design-parts (now (self .entry)) .circuit .outputs) ⌝ }
-    {
-        self.circuit.outputs.len()
-    }
-
-    /// How many stems there are: the inputs and the gates.
-    pub fn stems(&self) -> usize
+    // How many stems there are: the inputs and the gates.
+    pub(super) fn stems(&self) -> usize
         ensures { λ r. ⌜ r ≡ stem-count (design-parts (now (self .entry)) .circuit) ⌝ }
     {
         self.circuit.inputs.len() + self.circuit.gates.len()

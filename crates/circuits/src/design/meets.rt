@@ -59,8 +59,9 @@ impl Design {
         ensures repaired { λ r. ⌜ (r ≡ 0) ↔ Repaired (design-parts (now (self .entry)) .circuit) (design-parts (now (self .entry)) .rows) ⌝ }
         ensures value { λ r. ⌜ r ≡ misses (design-parts (now (self .entry)) .circuit) (design-parts (now (self .entry)) .rows) ⌝ }
     {
+        let outputs = self.circuit.outputs.len();
         let mut count = 0;
-        for output in 0..self.circuit.outputs.len() {
+        for output in 0..outputs {
             if self.is_missed(output) {
                 count += 1;
             }

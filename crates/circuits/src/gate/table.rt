@@ -35,8 +35,8 @@ impl Pins {
         true
     }
 
-    /// The pins in their order.
-    pub fn as_slice(&self) -> &[Pin]
+    // The pins in their order.
+    pub(crate) fn as_slice(&self) -> &[Pin]
         ensures { λ r. ⌜ now r ≡ pin-list (now (self .entry)) ⌝ }
     {
         &self.table[0..self.len]

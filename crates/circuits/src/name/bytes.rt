@@ -36,8 +36,8 @@ impl Name {
         })
     }
 
-    /// The bytes of the name.
-    pub fn as_bytes(&self) -> &[u8]
+    // The bytes of the name.
+    pub(crate) fn as_bytes(&self) -> &[u8]
         ensures { λ r. ⌜ now r ≡ name-bytes (now (self .entry)) ⌝ }
     {
         &self.bytes[0..self.len]

@@ -10,9 +10,10 @@ impl Literal {
     fn overlaps(self, other: Literal) -> bool
         ensures { λ r. ⌜ r ≡ overlap self other ⌝ }
     {
-        match (self, other) {
-            (Literal::Zero, Literal::One) | (Literal::One, Literal::Zero) => false,
-            _ => true,
+        match self {
+            Literal::Zero => other.matches(false),
+            Literal::One => other.matches(true),
+            Literal::Dash => true,
         }
     }
 }

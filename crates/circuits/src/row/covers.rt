@@ -9,7 +9,7 @@ use crate::row::SpecRow;
 
 impl Literal {
     // Whether the literal matches a bit.
-    fn matches(self, bit: bool) -> bool
+    pub(super) fn matches(self, bit: bool) -> bool
         ensures { λ r. ⌜ r ≡ matches self bit ⌝ }
     {
         match self {

@@ -32,8 +32,8 @@ impl Pattern {
         true
     }
 
-    /// The literals in their order.
-    pub fn as_slice(&self) -> &[Literal]
+    // The literals in their order.
+    pub(crate) fn as_slice(&self) -> &[Literal]
         ensures { λ r. ⌜ now r ≡ literal-list (now (self .entry)) ⌝ }
     {
         &self.literals[0..self.len]

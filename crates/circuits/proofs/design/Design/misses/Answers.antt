@@ -17,9 +17,9 @@ loop-output-again c =
     let e = c .args .self .now .circuit .outputs .ok .0 in
     elim (c .if-is-missed .came) [
       | then-is-missed w ↦
-          missed-more (d .circuit) (d .rows) (c .loop-output .output) (c .loop-output .count) (c .if-is-missed .count) true (omega (arith, e, c .len-output-end .ensures)) (w .if-is-missed .ensures tt) (w .count-is) (c .loop-output .inv)
+          missed-more (d .circuit) (d .rows) (c .loop-output .output) (c .loop-output .count) (c .if-is-missed .count) true (omega (arith, e, c .len-outputs .ensures)) (w .if-is-missed .ensures tt) (w .count-is) (c .loop-output .inv)
       | else-is-missed w ↦
-          missed-more (d .circuit) (d .rows) (c .loop-output .output) (c .loop-output .count) (c .if-is-missed .count) false (omega (arith, e, c .len-output-end .ensures)) (w .if-is-missed .ensures tt)
+          missed-more (d .circuit) (d .rows) (c .loop-output .output) (c .loop-output .count) (c .if-is-missed .count) false (omega (arith, e, c .len-outputs .ensures)) (w .if-is-missed .ensures tt)
           (w .count-is ∙ sym (add-zero (c .loop-output .count))) (c .loop-output .inv)
     ]
 
@@ -27,5 +27,5 @@ pub returns : need.returns
 returns c =
     let d = design-parts (c .args .self .now) in
     let e = c .args .self .now .circuit .outputs .ok .0 in
-    let value = missed-all (d .circuit) (d .rows) (c .loop-output .output) (c .loop-output .count) (omega (arith, e, c .len-output-end .ensures)) (c .loop-output .inv) in
+    let value = missed-all (d .circuit) (d .rows) (c .loop-output .output) (c .loop-output .count) (omega (arith, e, c .len-outputs .ensures)) (c .loop-output .inv) in
     record { repaired = misses-repaired (d .circuit) (d .rows) (c .loop-output .count) (c .args .self .now .lawful) value; value = value }
