@@ -5,10 +5,10 @@ use std::alloc::Global;
 use std::error::AnyError;
 use std::fs;
 use std::io;
-use std::rt::Files;
 use texts::ReadFault;
 use texts::Reader;
 use texts::Text;
+use texts::TextFault;
 
 // The file's bytes, or none where there is no such file.
 fn find(rt: &LibcRuntime, path: &str) -> io::Result<Option<Vec<u8>>> {
@@ -93,16 +93,21 @@ fn print_design(rt: &LibcRuntime, design: &Design) -> Result<(), AnyError> {
 }
 
 fn print_fault(rt: &LibcRuntime, fault: ReadFault) -> Result<(), AnyError> {
-    let number = fault.number();
-    let ReadFault::Text(at) = fault;
-    let text = match at.text {
+    let ReadFault::Text(
+        TextFault {
+            cause,
+            text,
+            record,
+            place,
+            length,
+        },
+    ) = fault;
+    let number = cause.number();
+    let letter = match text {
         Text::Netlist => 'n',
         Text::Specification => 's',
     };
-    let record = at.record;
-    let place = at.place;
-    let length = at.length;
-    println!(rt, "stop,{number},{text},{record},{place},{length}")?;
+    println!(rt, "stop,{number},{letter},{record},{place},{length}")?;
     Ok(())
 }
 

@@ -46,6 +46,13 @@ impl Draft {
         self.rows.clear();
     }
 
+    /// How many inputs there are.
+    pub fn inputs(&self) -> usize
+        ensures { λ r. ⌜ r ≡ length (draft-parts (now (self .entry)) .circuit .inputs) ⌝ }
+    {
+        self.circuit.inputs.len()
+    }
+
     /// How many gates there are.
     pub fn gates(&self) -> usize
         ensures { λ r. ⌜ r ≡ length (draft-parts (now (self .entry)) .circuit .gates) ⌝ }

@@ -1,0 +1,11 @@
+mod Splits
+mod Words
+mod Forms
+mod Lookups
+mod Pinning
+mod Additions
+mod Rows
+mod Taking
+mod Going
+mod RowSteps
+mod Telling

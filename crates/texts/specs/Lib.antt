@@ -1,0 +1,10 @@
+pub mod Faults
+pub mod Records
+pub mod Fields
+pub mod Groups
+pub mod Shapes
+pub mod Adding
+pub mod Walks
+pub mod Netlist
+pub mod Specification
+pub mod Reading
