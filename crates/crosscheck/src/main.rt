@@ -1,4 +1,7 @@
 //! Many designs through the libraries. What they answer is compared with a plain evaluation of truth tables.
+#[cfg(test)]
+mod examples;
+
 use circuits::Design;
 use std::alloc::AllocError;
 use std::alloc::Global;
