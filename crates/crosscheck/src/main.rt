@@ -1,4 +1,5 @@
 //! Many designs through the libraries. What they answer is compared with a plain evaluation of truth tables.
+mod calls;
 #[cfg(test)]
 mod examples;
 
@@ -114,24 +115,43 @@ fn print_fault(rt: &LibcRuntime, fault: ReadFault) -> Result<(), AnyError> {
     Ok(())
 }
 
-fn main(rt: LibcRuntime) -> Result<(), AnyError> {
+// The texts, pair by pair.
+fn print_texts(rt: &LibcRuntime) -> Result<(), AnyError> {
     let heap = rt.alloc();
     let mut reader = Reader::new(heap)?;
     let mut design = Design::new(heap)?;
     for case in 1..10_000u32 {
         let netlist_path = format!(heap, "{case}.netlist")?;
-        let Some(netlist) = find(&rt, netlist_path.as_str())? else {
+        let Some(netlist) = find(rt, netlist_path.as_str())? else {
             break;
         };
         let spec_path = format!(heap, "{case}.spec")?;
-        let Some(spec) = find(&rt, spec_path.as_str())? else {
+        let Some(spec) = find(rt, spec_path.as_str())? else {
             break;
         };
         println!(rt, "case,{case}")?;
         match reader.read(netlist.as_slice(), spec.as_slice(), &mut design) {
-            Ok(()) => print_design(&rt, &design)?,
-            Err(fault) => print_fault(&rt, fault)?,
+            Ok(()) => print_design(rt, &design)?,
+            Err(fault) => print_fault(rt, fault)?,
         }
     }
     Ok(())
+}
+
+// The calls of a word store, table by table: each over as many words as its name says.
+fn print_calls(rt: &LibcRuntime) -> Result<(), AnyError> {
+    for places in [0, 1, 2, 5, 12, 4096] {
+        let path = format!(rt.alloc(), "{places}.calls")?;
+        let Ok(table) = fs::read_to_string(rt, path.as_str()) else {
+            return Err("a table is missing".into());
+        };
+        println!(rt, "words,{places}")?;
+        calls::run_table(rt, places, table.as_str())?;
+    }
+    Ok(())
+}
+
+fn main(rt: LibcRuntime) -> Result<(), AnyError> {
+    print_texts(&rt)?;
+    print_calls(&rt)
 }

@@ -1,0 +1,10 @@
+pub mod Alone
+pub mod Counts
+pub mod Joining
+pub mod Keeping
+pub mod Laws
+pub mod Listed
+pub mod Methods
+pub mod Orders
+pub mod Sames
+pub mod WordBits

@@ -1,0 +1,9 @@
+//! The operations that join two functions.
+
+/// What a join makes of two bits.
+#[derive(Clone, Copy)]
+pub enum Operation {
+    And,
+    Or,
+    Xor,
+}
