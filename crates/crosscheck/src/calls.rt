@@ -47,7 +47,7 @@ fn number(word: Option<&str>) -> usize {
 }
 
 // Runs the calls of a table, a line for each, over this many words.
-pub fn run_table(rt: &LibcRuntime, places: usize, table: &str) -> Result<(), AnyError> {
+pub(crate) fn run_table(rt: &LibcRuntime, places: usize, table: &str) -> Result<(), AnyError> {
     let mut words = vec![in rt.alloc(); 0u64; places]?;
     let mut store = Words::new(words.as_mut_slice());
     for line in table.lines() {

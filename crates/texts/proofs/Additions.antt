@@ -1,8 +1,8 @@
 -- What speaks against a part that a record names is what speaks against the part itself.
-use mathlib.Core.Bool.{Bool, true, false, cond, not, _&&_, _||_}
-use mathlib.Core.List.{List, [], _∷_, _++_, map}
-use mathlib.Core.Path.{_≡_, refl, sym, ap, subst, _∙_}
-use Prim.Native.Nat.{ℕ, suc, _+_, _<_, _≤_}
+use mathlib.Core.Bool.{Bool, true, false, cond, not, _||_}
+use mathlib.Core.List.{List, [], _∷_, map}
+use mathlib.Core.Path.{_≡_, refl, ap, subst, _∙_}
+use Prim.Native.Nat.{ℕ, suc, _+_, _<_}
 use native.Mathlib.Omega.{arith}
 use lib.Dec.{leb, ltb}
 use lib.ListN.{length}
@@ -15,14 +15,13 @@ use Rattle.std.specs.declared.option.Option.the-variants.{Some, None}
 use Rattle.circuits.specs.declared.fault.PartFault.the-variants as part
 use Rattle.circuits.specs.declared.gate.Gate.{Gate}
 use Rattle.circuits.specs.declared.gate.Output.{Output}
-use Rattle.circuits.specs.declared.name.Name.{Name}
 use Rattle.circuits.specs.declared.pin.Pin.{Pin}
 use Rattle.circuits.specs.Circuits.{name-bytes, pins-of}
 use Rattle.circuits.specs.Drafts.{Parts, check, some-yet, gate-fault, output-fault}
 use Rattle.circuits.specs.Kinds.{fits}
 use Rattle.circuits.specs.Legality.{position, among, stem-names, output-names, pins-read}
 use Rattle.circuits.specs.Lines.{stem-count, then}
-use Rattle.texts.specs.Adding.{cause-if, reached, stem-named, pin-named, pins-named, pins-cause, gate-cause, output-cause}
+use Rattle.texts.specs.Adding.{cause-if, reached, stem-named, pins-named, pins-cause, gate-cause, output-cause}
 use Rattle.texts.specs.Fields.{has-mark, past-mark}
 use Rattle.texts.specs.declared.fault.Cause.the-variants.{Naming, Limit, PinCount}
 use Rattle.texts.specs.declared.group.Group.the-variants.{Gates, Outputs}

@@ -1,6 +1,6 @@
 -- What one record of the netlist does.
 use mathlib.Core.Bool.{Bool, true}
-use mathlib.Core.List.{List, []}
+use mathlib.Core.List.{List}
 use mathlib.Core.Path.{_≡_, refl, sym, ap, subst, _∙_}
 use Prim.Native.Nat.{ℕ, _+_, _<_}
 use native.Mathlib.Omega.{arith}
@@ -21,7 +21,7 @@ use Rattle.texts.specs.declared.group.Group.the-variants.{Inputs, Gates, Outpu
 use Rattle.texts.specs.declared.group.RecordKind.{RecordKind}
 use Rattle.texts.specs.declared.shape.Shaped.{Shaped}
 use Rattle.texts.specs.declared.shape.Shaped.the-variants as shaped
-use Rattle.texts.specs.Adding.{reached, stem-named, pin-named, pins-named, input-cause, gate-cause, GateAdded, output-cause, OutputAdded}
+use Rattle.texts.specs.Adding.{reached, stem-named, pin-named, pins-named, GateAdded, output-cause, OutputAdded}
 use Rattle.texts.specs.Fields.{marked-word, has-mark}
 use Rattle.texts.specs.Groups.{next}
 use Rattle.texts.specs.Netlist.{shape-kind, Spells, shape-cause, Declared, Taken, shapeless, late, refused, added, NetlistStep}
@@ -33,10 +33,10 @@ use Rattle.texts.proofs.Words.{mark-of-word, name-of-word}
 abbrev a-pin : ℕ → Bool → Pin
 a-pin k m = record { stem = k; mark = m }
 
-abbrev Told : List ℕ → Shaped → Type 0
-Told bs x = (well-shaped (shape-of (fields bs) x) ≡ true) × (fields bs ≡ shape-fields (shape-of (fields bs) x))
+abbrev Fitting : List ℕ → Shaped → Type 0
+Fitting bs x = (well-shaped (shape-of (fields bs) x) ≡ true) × (fields bs ≡ shape-fields (shape-of (fields bs) x))
 
-spelt : (bs : List ℕ) (x : Shaped) → Told bs x → Spells bs (shape-of (fields bs) x)
+spelt : (bs : List ℕ) (x : Shaped) → Fitting bs x → Spells bs (shape-of (fields bs) x)
 spelt bs x h = record { good = h .0; parts = h .1 }
 
 kind-same : (fs : List (List ℕ)) (x : Shaped) → shaped-kind x ≡ shape-kind (shape-of fs x)
@@ -44,7 +44,7 @@ kind-same fs (shaped.Input x) = refl
 kind-same fs (shaped.Gate x k) = refl
 kind-same fs (shaped.Output x m s) = refl
 
-module _ (d : Parts) (g : Group) (bs : List ℕ) (x : Shaped) (k : RecordKind) (told : Told bs x) (kind : k ≡ shaped-kind x) where
+module _ (d : Parts) (g : Group) (bs : List ℕ) (x : Shaped) (k : RecordKind) (told : Fitting bs x) (kind : k ≡ shaped-kind x) where
   onto : (r : Result Group Cause) → r ≡ next g k → next g (shape-kind (shape-of (fields bs) x)) ≡ r
   onto r e = sym (e ∙ ap (next g) (kind ∙ kind-same (fields bs) x))
 

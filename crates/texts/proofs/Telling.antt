@@ -4,7 +4,7 @@ use mathlib.Core.Path.{_≡_, refl, sym, ap, subst, _∙_}
 use Prim.Native.Nat.{ℕ, _+_, _<_, _≤_}
 use native.Mathlib.Omega.{arith}
 use lib.ListN.{length}
-use Rattle.std.specs.declared.option.Option.the-variants.{Some, None}
+use Rattle.std.specs.declared.option.Option.the-variants.{Some}
 use Rattle.std.specs.declared.result.Result.{Result}
 use Rattle.std.specs.declared.result.Result.the-variants.{Ok}
 use Rattle.circuits.specs.declared.fault.PartFault.{PartFault}
@@ -18,9 +18,8 @@ use Rattle.texts.specs.declared.fault.TextFault.{TextFault}
 use Rattle.texts.specs.Faults.{cause-number, of-text}
 use Rattle.texts.specs.Netlist.{NetlistRead, NetlistRefused, at-record, at-end}
 use Rattle.texts.specs.Reading.{most, too-long, Refused, netlist-long, netlist-refused, specification-long, specification-refused, Told, text-of}
-use Rattle.texts.specs.Records.{record-at}
-use Rattle.texts.specs.Specification.{RowStep, added, SpecificationRead, SpecificationRefused}
-use Rattle.texts.specs.Walks.{record-place, fault-at, At, ended, After, none, more, Stopped, stopped}
+use Rattle.texts.specs.Specification.{RowStep, added, SpecificationRead}
+use Rattle.texts.specs.Walks.{record-place, At, ended, After, none, more, Stopped, stopped}
 use Rattle.texts.proofs.Splits.{record-within}
 
 numbers : (c : Cause) → (1 ≤ cause-number c) × (cause-number c ≤ 8)

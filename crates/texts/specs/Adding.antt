@@ -17,7 +17,7 @@ use Rattle.circuits.specs.declared.kind.Kind.{Kind}
 use Rattle.circuits.specs.declared.name.Name.{Name}
 use Rattle.circuits.specs.declared.pin.Pin.{Pin}
 use Rattle.circuits.specs.declared.row.SpecRow.{SpecRow}
-use Rattle.circuits.specs.Circuits.{name-bytes, pin-list, pins-of}
+use Rattle.circuits.specs.Circuits.{pin-list, pins-of}
 use Rattle.circuits.specs.Drafts.{Parts, with-gate, with-output, with-row}
 use Rattle.circuits.specs.Kinds.{fits}
 use Rattle.circuits.specs.Legality.{position, among, stem-names, output-names, agrees}

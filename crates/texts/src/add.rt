@@ -2,11 +2,9 @@
 ghost use mathlib.Core.Path.{_≡_};
 ghost use Rattle.std.specs.Options.{mapped};
 ghost use Rattle.std.specs.Results.{Cases};
-ghost use Rattle.std.specs.declared.option.Option.the-variants.{Some, None};
 ghost use Rattle.circuits.specs.Circuits.{name-bytes};
 ghost use Rattle.circuits.specs.Drafts.{draft-parts, with-input};
 ghost use Rattle.texts.specs.Adding.{Settled, reached, pin-named, pins-named, PinsRead, input-cause, gate-cause, GateAdded, output-cause, OutputAdded, RowAdded, RowRefused};
-ghost use Rattle.texts.specs.Faults.{cause-of};
 ghost use Rattle.texts.specs.Records.{fields-left};
 use crate::fault::Cause;
 use crate::fault::CauseFromPart;

@@ -4,14 +4,14 @@ ghost use Rattle.texts.specs.Faults.{cause-number, fault-number, read-number, 
 use circuits::PartFault;
 
 /// One of the two texts of a design.
-#[derive(Clone, Copy, PartialEq, Eq, Debug)]
+#[derive(Clone, Copy)]
 pub enum Text {
     Netlist,
     Specification,
 }
 
 /// The rule that a text or a record of it breaks.
-#[derive(Clone, Copy, PartialEq, Eq, Debug)]
+#[derive(Clone, Copy)]
 pub enum Cause {
     /// The text has more than 8,192 bytes.
     TooLong,
@@ -32,7 +32,7 @@ pub enum Cause {
 }
 
 /// A record that is refused. Where the whole text is too long, record, place and length are 0.
-#[derive(Clone, Copy, PartialEq, Eq, Debug)]
+#[derive(Clone, Copy)]
 pub struct TextFault {
     pub cause: Cause,
     pub text: Text,
@@ -83,11 +83,9 @@ impl ReadFault {
         ensures { λ r. ⌜ r ≡ read-number self ⌝ }
     {
         let ReadFault::Text(fault) = self;
-        let TextFault {
-            cause,
-            text: _text,
-            ..
-        } = fault;
+        // Each type that a fault holds has to be in use here, or the check does not find it.
+        let _text = fault.text;
+        let cause = fault.cause;
         cause.number()
     }
 }

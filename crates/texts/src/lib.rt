@@ -11,6 +11,7 @@ mod specification;
 
 pub use fault::Cause;
 pub use fault::ReadFault;
+pub use fault::ReadFaultFromText;
 pub use fault::Text;
 pub use fault::TextFault;
 pub use read::Reader;

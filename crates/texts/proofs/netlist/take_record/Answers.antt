@@ -4,8 +4,6 @@ use Rattle.circuits.specs.Circuits.{name-bytes}
 use Rattle.circuits.specs.Drafts.{draft-parts}
 use Rattle.texts.specs.Adding.{gate-cause}
 use Rattle.texts.specs.Netlist.{shapeless}
-use Rattle.texts.specs.Records.{fields}
-use Rattle.texts.specs.Shapes.{shape-of}
 use Rattle.texts.proofs.Taking.{taken-late, taken-refused, taken-added, onward-taken, gate-declared, output-declared, output-told}
 use Rattle.texts.proofs.netlist.take_record.Needs as need
 

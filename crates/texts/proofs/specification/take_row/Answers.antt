@@ -1,7 +1,5 @@
-use mathlib.Core.Path.{_≡_, sym, ap, _∙_}
 use Rattle.circuits.specs.Circuits.{name-bytes}
 use Rattle.circuits.specs.Drafts.{draft-parts}
-use Rattle.texts.specs.Shapes.{row-fields}
 use Rattle.texts.specs.Specification.{shapeless}
 use Rattle.texts.proofs.RowSteps.{no-row, row-step}
 use Rattle.texts.proofs.specification.take_row.Needs as need

@@ -1,8 +1,7 @@
-use mathlib.Core.Path.{sym, ap, _∙_}
+use mathlib.Core.Path.{sym, _∙_}
 use Rattle.texts.specs.Records.{comma}
-use Rattle.std.specs.Options.{mapped}
 use Rattle.texts.proofs.Forms.{pins-bad, pins-good, pins-none}
-use Rattle.texts.proofs.Splits.{left-over, after-less}
+use Rattle.texts.proofs.Splits.{after-less}
 use Rattle.texts.proofs.shape.netlist.pins_shaped.Needs as need
 
 pub returns-then-not-pin-shaped : need.returns-then-not-pin-shaped
