@@ -1,4 +1,6 @@
 //! Circuits of gates, their lines, and the rows that their outputs have to meet.
+#![tactic(auto)]
+
 mod circuit;
 mod counts;
 mod design;

@@ -1,4 +1,6 @@
 //! Many designs through the libraries. What they answer is compared with a plain evaluation of truth tables.
+#![tactic(auto)]
+
 mod calls;
 #[cfg(test)]
 mod examples;

@@ -1,4 +1,6 @@
 //! The diagram store: functions as reduced ordered decision diagrams.
+#![tactic(auto)]
+
 mod chains;
 mod diagram;
 mod join;

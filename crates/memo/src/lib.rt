@@ -1,4 +1,6 @@
 //! The memo: a store laid over any other store, which remembers the calls that it answered.
+#![tactic(auto)]
+
 mod call;
 mod memo;
 mod store;

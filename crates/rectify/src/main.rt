@@ -1,4 +1,6 @@
 //! The program: reads a netlist and its specification, and prints the report on them.
+#![tactic(auto)]
+
 mod report;
 mod rows;
 

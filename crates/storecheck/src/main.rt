@@ -1,5 +1,7 @@
 //! Tables of store calls through the function stores. What they answer is compared with lists of truth tables, and what
 //! memos over them answer with the bare stores.
+#![tactic(auto)]
+
 mod calls;
 mod counting;
 

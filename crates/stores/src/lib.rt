@@ -1,4 +1,6 @@
 //! Function stores: what they mean, as a trait, and stores with that meaning.
+#![tactic(auto)]
+
 mod fault;
 mod operation;
 mod store;

@@ -1,4 +1,6 @@
 //! The two texts of a design: the netlist and the specification, read record by record.
+#![tactic(auto)]
+
 mod add;
 mod fault;
 mod field;
