@@ -9,7 +9,7 @@ pub returns-in-Err : goal.returns-in-Err
 returns-in-Err g c =
     let S = g.S.Store in
     let m = S.meaning c.args.s.now in
-    let m' = S.meaning c.majority-parts.new.s in
+    let m' = S.meaning c.majority_parts.new.s in
     let m'' = S.meaning c.release.new.self in
     let held : AllHeld m c.args.a c.args.b c.args.c = (omega (arith, c.length-before.ensures.length, c.if-before-a.false), omega (arith, c.length-before.ensures.length, c.if-before-b.false), omega (arith, c.length-before.ensures.length, c.if-before-c.false)) in
     let z : Releases m' (length m.held) c.release.result m'' = rw c.length-before.ensures.length at c.release.ensures.releases in

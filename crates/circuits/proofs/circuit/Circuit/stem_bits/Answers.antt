@@ -18,8 +18,8 @@ returns c =
     let e = c.args.self.now.gates.ok.0 in
     gates_all c.len-inputs.result (net c.args.self.now) c.args.assignment c.loop-k.bits c.loop-k.k (omega (arith, c.len-k-end.ensures, e)) c.loop-k.invariant
 
-pub work-out-bit-requires : goal.work-out-bit-requires
-work-out-bit-requires c =
+pub work_out-bit-requires : goal.work_out-bit-requires
+work_out-bit-requires c =
     let e = c.args.self.now.gates.ok.0 in
     let f = c.args.self.now.inputs.ok.0 in
     gate_after c.len-inputs.result (net c.args.self.now) c.loop-k.bits c.loop-k.k _ c.index.result.now c.requires.legal (omega (arith, c.len-k-end.ensures, e))
@@ -29,5 +29,5 @@ pub loop-k-preserved : goal.loop-k-preserved
 loop-k-preserved c =
     let e = c.args.self.now.gates.ok.0 in
     let f = c.args.self.now.inputs.ok.0 in
-    gates_more c.len-inputs.result (net c.args.self.now) c.args.assignment c.loop-k.bits c.loop-k.k _ c.index.result.now c.work-out-bit.result
-    (omega (arith, c.len-k-end.ensures, e)) (omega (arith, c.len-k-end.ensures, e, c.len-inputs.ensures, f)) c.index.ensures c.loop-k.invariant (omega arith) (c.work-out-bit.ensures c.loop-k.k)
+    gates_more c.len-inputs.result (net c.args.self.now) c.args.assignment c.loop-k.bits c.loop-k.k _ c.index.result.now c.work_out-bit.result
+    (omega (arith, c.len-k-end.ensures, e)) (omega (arith, c.len-k-end.ensures, e, c.len-inputs.ensures, f)) c.index.ensures c.loop-k.invariant (omega arith) (c.work_out-bit.ensures c.loop-k.k)

@@ -4,8 +4,8 @@ use Rattle.circuits.specs.Circuits.{net}
 use Rattle.circuits.proofs.Rules.{design_rules}
 use Rattle.circuits.proofs.design.Design.assignments.Goals as goal
 
-pub overflow-shl-result : goal.overflow-shl-result
-overflow-shl-result c =
+pub overflow_shl-result : goal.overflow_shl-result
+overflow_shl-result c =
     let r = design_rules (net c.args.self.now.circuit) _ c.args.self.now.lawful in
     omega (arith, r.few_inputs, c.args.self.now.circuit.inputs.ok.0, c.len.ensures)
 

@@ -7,11 +7,11 @@ use Rattle.circuits.proofs.Working.{stems_length}
 use Rattle.circuits.proofs.design.Design.carry.Goals as goal
 
 -- the slice of the stems
-stems_are : (c : goal.After-shared-slice-known·1) → take (c.stems.result - 0) c.stem-bits-table.result ≡ carried (net c.args.self.now.circuit) c.args.assignment
-stems_are c = ap (λ n. take n c.stem-bits-table.result) (omega (arith, c.stems.ensures)) ∙ c.stem-bits-table.ensures.bits
+stems_are : (c : goal.After-shared_slice_known-1) → take (c.stems.result - 0) c.stem_bits-table.result ≡ carried (net c.args.self.now.circuit) c.args.assignment
+stems_are c = ap (λ n. take n c.stem_bits-table.result) (omega (arith, c.stems.ensures)) ∙ c.stem_bits-table.ensures.bits
 
-place_is : (c : goal.After-shared-slice-known·1) → place_of (net c.args.self.now.circuit) c.args.line ≡ Some (Stem c.in-Stem.stem)
-place_is c = sym c.place.ensures.value ∙ (c.in-ok-stem.was ∙ ap (λ p. Some p) c.in-Stem.is)
+place_is : (c : goal.After-shared_slice_known-1) → place_of (net c.args.self.now.circuit) c.args.line ≡ Some (Stem c.in-Stem.stem)
+place_is c = sym c.place.ensures.value ∙ (c.in_ok-stem.was ∙ ap (λ p. Some p) c.in-Stem.is)
 
 pub bounds-stems-stem : goal.bounds-stems-stem
 bounds-stems-stem c =

@@ -23,25 +23,25 @@ both d k o e =
     let p = design_parts d in
     record { rows = meets_rows p.circuit p.rows k o (design_rules p.circuit p.rows d.lawful) e; value = e }
 
-pub returns-in-err-pin : goal.returns-in-err-pin
-returns-in-err-pin c =
+pub returns-in_err-pin : goal.returns-in_err-pin
+returns-in_err-pin c =
     let d = design_parts c.args.self.now in
-    both c.args.self.now c.args.output _ (c.from-residual.ensures ∙ meets_no_output d.circuit d.rows c.args.output c.in-err-pin.ensures.value)
+    both c.args.self.now c.args.output _ (c.from_residual.ensures ∙ meets_no_output d.circuit d.rows c.args.output c.in_err-pin.ensures.value)
 
-pub returns-then-not-obeys-at : goal.returns-then-not-obeys-at
-returns-then-not-obeys-at c =
+pub returns-then-not-obeys_at : goal.returns-then-not-obeys_at
+returns-then-not-obeys_at c =
     let d = design_parts c.args.self.now in
     both c.args.self.now c.args.output _
-    (meets_by_pin d.circuit d.rows c.args.output c.in-ok-pin.pin _ c.in-ok-pin.ensures.value
-    (sym (each_below_not _ c.loop-assignment.assignment _ (omega (arith, c.assignments-assignment-end.ensures)) (sym c.if-not-obeys-at.ensures))))
+    (meets_by_pin d.circuit d.rows c.args.output c.in_ok-pin.pin _ c.in_ok-pin.ensures.value
+    (sym (each_below_not _ c.loop-assignment.assignment _ (omega (arith, c.assignments-assignment-end.ensures)) (sym c.if-not-obeys_at.ensures))))
 
 pub returns : goal.returns
 returns c =
     let d = design_parts c.args.self.now in
     let end : c.loop-assignment.assignment ≡ assignments d.circuit = omega (arith, c.assignments-assignment-end.ensures) in
     both c.args.self.now c.args.output _
-    (meets_by_pin d.circuit d.rows c.args.output c.in-ok-pin.pin _ c.in-ok-pin.ensures.value
-    (sym c.loop-assignment.invariant ∙ ap (λ n. each_below n (λ a. obeys (bound d.rows c.args.output a) (through c.in-ok-pin.pin (carried d.circuit a)))) end))
+    (meets_by_pin d.circuit d.rows c.args.output c.in_ok-pin.pin _ c.in_ok-pin.ensures.value
+    (sym c.loop-assignment.invariant ∙ ap (λ n. each_below n (λ a. obeys (bound d.rows c.args.output a) (through c.in_ok-pin.pin (carried d.circuit a)))) end))
 
 pub loop-assignment-preserved : goal.loop-assignment-preserved
-loop-assignment-preserved c = each_below_more c.loop-assignment.assignment _ c.loop-assignment.invariant (sym c.if-not-obeys-at.ensures)
+loop-assignment-preserved c = each_below_more c.loop-assignment.assignment _ c.loop-assignment.invariant (sym c.if-not-obeys_at.ensures)

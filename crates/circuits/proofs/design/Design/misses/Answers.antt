@@ -12,11 +12,11 @@ pub loop-output-preserved : goal.loop-output-preserved
 loop-output-preserved c =
     let d = design_parts c.args.self.now in
     let e = c.args.self.now.circuit.outputs.ok.0 in
-    elim c.if-is-missed.branch [
+    elim c.if-is_missed.branch [
       | then-is-missed w ↦
-          missed_more d.circuit d.rows c.loop-output.output c.loop-output.count c.if-is-missed.count true (omega (arith, e, c.len-outputs.ensures)) w.if-is-missed.ensures w.count-is c.loop-output.invariant
+          missed_more d.circuit d.rows c.loop-output.output c.loop-output.count c.if-is_missed.count true (omega (arith, e, c.len-outputs.ensures)) w.if-is_missed.ensures w.count-is c.loop-output.invariant
       | else-is-missed w ↦
-          missed_more d.circuit d.rows c.loop-output.output c.loop-output.count c.if-is-missed.count false (omega (arith, e, c.len-outputs.ensures)) w.if-is-missed.ensures
+          missed_more d.circuit d.rows c.loop-output.output c.loop-output.count c.if-is_missed.count false (omega (arith, e, c.len-outputs.ensures)) w.if-is_missed.ensures
           (w.count-is ∙ sym (add-zero c.loop-output.count)) c.loop-output.invariant
     ]
 

@@ -21,7 +21,7 @@ returns-then-position-pins c =
       value =
           sym
           (no_pin n.gates c.args.gate c.args.position c.index.result.now (omega (arith, c.args.self.now.circuit.gates.ok.0, c.len.ensures)) c.index.ensures
-          (omega (arith, ap length c.as-slice-pins.ensures)));
+          (omega (arith, ap length c.as_slice-pins.ensures)));
       reads = tt;
     }
 
@@ -30,8 +30,8 @@ returns c =
     let n = net c.args.self.now.circuit in
     let r = design_rules n _ c.args.self.now.lawful in
     let within : c.args.gate < length n.gates = omega (arith, c.args.self.now.circuit.gates.ok.0, c.len.ensures) in
-    let small : c.args.position < length (pins_of c.index.result.now) = omega (arith, ap length c.as-slice-pins.ensures) in
-    rw c.as-slice-pins.ensures
+    let small : c.args.position < length (pins_of c.index.result.now) = omega (arith, ap length c.as_slice-pins.ensures) in
+    rw c.as_slice-pins.ensures
     (record {
       value = sym (pin_at_is n.gates c.args.gate c.args.position c.index.result.now blank within c.index.ensures small);
       reads = gate_reads (length n.inputs) n.gates c.args.gate c.args.position c.index.result.now blank r.gates_good within c.index.ensures small;

@@ -5,16 +5,16 @@ use Rattle.circuits.proofs.Faults.{row_passes}
 use Rattle.circuits.proofs.Rules.{rules, drafted_from}
 use Rattle.circuits.proofs.draft.Draft.add_row.Goals as goal
 
-no_fault : (c : goal.After-push-reserved) → row_fault (draft_parts c.args.self.now) c.args.row ≡ None
+no_fault : (c : goal.After-push_reserved) → row_fault (draft_parts c.args.self.now) c.args.row ≡ None
 no_fault c =
     let rows = c.args.self.now.rows.ok.0 in
     let outputs = c.args.self.now.circuit.outputs.ok.0 in
     let inputs = c.args.self.now.circuit.inputs.ok.0 in
-    row_passes (draft_parts c.args.self.now) c.args.row (omega arith) (omega arith) (rw (← c.as-slice.ensures) (omega arith))
-    (rw (← c.as-slice-2.ensures.value) c.if-not-agrees-with.ensures)
+    row_passes (draft_parts c.args.self.now) c.args.row (omega arith) (omega arith) (rw (← c.as_slice.ensures) (omega arith))
+    (rw (← c.as_slice-2.ensures.value) c.if-not-agrees_with.ensures)
 
-pub invariant-of-self : goal.invariant-of-self
-invariant-of-self c =
+pub invariant_of-self : goal.invariant_of-self
+invariant_of-self c =
     let d = draft_parts c.args.self.now in
     let k = drafted_from _ _ (row_added d c.args.row (rules _ _ c.args.self.now.lawful) (no_fault c)) in
-    (rw c.push-reserved.ensures.items k, (rw c.push-reserved.ensures.capacity c.args.self.now.room, tt))
+    (rw c.push_reserved.ensures.items k, (rw c.push_reserved.ensures.capacity c.args.self.now.room, tt))

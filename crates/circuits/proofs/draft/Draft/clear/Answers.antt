@@ -1,8 +1,8 @@
 use Rattle.circuits.proofs.Starts.{nothing_drafted}
 use Rattle.circuits.proofs.draft.Draft.clear.Goals as goal
 
-pub invariant-of-self : goal.invariant-of-self
-invariant-of-self c = (
+pub invariant_of-self : goal.invariant_of-self
+invariant_of-self c = (
   nothing_drafted _ _ _ _ c.clear.ensures.items c.clear-2.ensures.items c.clear-3.ensures.items c.clear-4.ensures.items,
   (rw (c.clear.ensures.capacity, c.clear-2.ensures.capacity, c.clear-3.ensures.capacity, c.clear-4.ensures.capacity) c.args.self.now.room, tt),
 )

@@ -7,7 +7,7 @@ use Rattle.circuits.proofs.gate.Gate.reads_below.Goals as goal
 pub returns-then-pin-stems : goal.returns-then-pin-stems
 unfolding pins_read
 returns-then-pin-stems c =
-    rw (← c.as-slice-pin-items.ensures)
+    rw (← c.as_slice-pin-items.ensures)
     (walk_stops (λ p. ltb p.stem c.args.stems) (pins_read c.args.stems) refl (λ _ _. refl) _ _ _ c.loop-pin-test.true (le-ltb _ _ c.if-pin-stems.true) c.loop-pin.invariant)
 
 pub loop-pin-preserved : goal.loop-pin-preserved
@@ -18,5 +18,5 @@ loop-pin-preserved c =
 pub returns : goal.returns
 unfolding pins_read
 returns c =
-    rw (← c.as-slice-pin-items.ensures)
+    rw (← c.as_slice-pin-items.ensures)
     (walk_ends (λ p. ltb p.stem c.args.stems) (pins_read c.args.stems) refl (λ _ _. refl) _ _ c.loop-pin-test.false c.loop-pin.invariant)

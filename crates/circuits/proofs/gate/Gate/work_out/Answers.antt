@@ -8,12 +8,12 @@ use Rattle.circuits.specs.declared.pin.Pin.{Pin}
 use Rattle.circuits.proofs.Working.{pins_few, received_each}
 use Rattle.circuits.proofs.gate.Gate.work_out.Goals as goal
 
-pub count-ones-requires : goal.count-ones-requires
-count-ones-requires c =
+pub count_ones-requires : goal.count_ones-requires
+count_ones-requires c =
     record {
-      few = rw c.as-slice-pins.ensures (pins_few c.args.self.now);
+      few = rw c.as_slice-pins.ensures (pins_few c.args.self.now);
       earlier =
-          rw c.as-slice-pins.ensures
+          rw c.as_slice-pins.ensures
           (and_parts (fits c.args.self.now.kind (length (pins_of c.args.self.now))) (pins_read (length c.args.stems.now) (pins_of c.args.self.now)) c.requires).1;
     }
 
@@ -21,8 +21,8 @@ pub returns : goal.returns
 returns c g =
     let pins = pins_of c.args.self.now in
     let stems = c.args.stems.now in
-    let same = c.as-slice-pins.ensures in
+    let same = c.as_slice-pins.ensures in
     c.bit.ensures (received nothing g 0 stems pins)
     (ap length (received_each g 0 stems pins) ∙ (length-map pins (λ (p : Pin). through p stems) ∙ ap length (sym same)))
-    (ap (λ ps. ones (received nothing g 0 stems ps)) (sym same) ∙ sym (c.count-ones.ensures g))
+    (ap (λ ps. ones (received nothing g 0 stems ps)) (sym same) ∙ sym (c.count_ones.ensures g))
     (rw same (and_parts (fits c.args.self.now.kind (length pins)) (pins_read (length stems) pins) c.requires).0)

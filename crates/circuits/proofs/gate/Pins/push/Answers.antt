@@ -10,17 +10,17 @@ returns-then-self-eq4 c =
     let e = front_length unused 4 c.args.self.now.table c.args.self.now.len f in
     record { room = grind (arith, nat_tests); added = refl }
 
-pub offset-bounds-self-self : goal.offset-bounds-self-self
-offset-bounds-self-self c = let f = front_parts unused 4 c.args.self.now.table c.args.self.now.len c.args.self.now.good in omega arith
+pub offset_bounds-self-self : goal.offset_bounds-self-self
+offset_bounds-self-self c = let f = front_parts unused 4 c.args.self.now.table c.args.self.now.len c.args.self.now.good in omega arith
 
 pub bounds-self-self : goal.bounds-self-self
 bounds-self-self c = let f = front_parts unused 4 c.args.self.now.table c.args.self.now.len c.args.self.now.good in omega arith
 
-pub overflow-add-self : goal.overflow-add-self
-overflow-add-self c = let f = front_parts unused 4 c.args.self.now.table c.args.self.now.len c.args.self.now.good in omega arith
+pub overflow_add-self : goal.overflow_add-self
+overflow_add-self c = let f = front_parts unused 4 c.args.self.now.table c.args.self.now.len c.args.self.now.good in omega arith
 
-pub invariant-of-self : goal.invariant-of-self
-invariant-of-self c =
+pub invariant_of-self : goal.invariant_of-self
+invariant_of-self c =
     let f = front_parts unused 4 c.args.self.now.table c.args.self.now.len c.args.self.now.good in
     (front_from unused 4 _ _ (front_more unused 4 c.args.self.now.table c.args.self.now.len c.args.pin (omega arith) f), tt)
 

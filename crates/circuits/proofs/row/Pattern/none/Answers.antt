@@ -2,6 +2,6 @@ use Rattle.std.proofs.Common.{refl}
 use Rattle.circuits.specs.Tables.{all_blank, holds_front}
 use Rattle.circuits.proofs.row.Pattern.none.Goals as goal
 
-pub invariant-of-result : goal.invariant-of-result
+pub invariant_of-result : goal.invariant_of-result
 unfolding holds_front all_blank
-invariant-of-result c = (refl, tt)
+invariant_of-result c = (refl, tt)

@@ -13,11 +13,11 @@ returns-then-self-eq12 c =
 pub bounds-self-self : goal.bounds-self-self
 bounds-self-self c = let f = front_parts is_dash 12 c.args.self.now.literals c.args.self.now.len c.args.self.now.good in omega arith
 
-pub overflow-add-self : goal.overflow-add-self
-overflow-add-self c = let f = front_parts is_dash 12 c.args.self.now.literals c.args.self.now.len c.args.self.now.good in omega arith
+pub overflow_add-self : goal.overflow_add-self
+overflow_add-self c = let f = front_parts is_dash 12 c.args.self.now.literals c.args.self.now.len c.args.self.now.good in omega arith
 
-pub invariant-of-self : goal.invariant-of-self
-invariant-of-self c =
+pub invariant_of-self : goal.invariant_of-self
+invariant_of-self c =
     let f = front_parts is_dash 12 c.args.self.now.literals c.args.self.now.len c.args.self.now.good in
     (front_from is_dash 12 _ _ (front_more is_dash 12 c.args.self.now.literals c.args.self.now.len c.args.literal (omega arith) f), tt)
 

@@ -10,12 +10,12 @@ returns-in-Some c =
 pub returns-then-self : goal.returns-then-self
 returns-then-self c =
     let v = c.args.self.now in
-    record { sound = c.requires.sound; makes = keep_full v.inputs v.len v.words.now c.args.w c.requires.sound c.in-default.ensures c.if-self.true }
+    record { sound = c.requires.sound; makes = keep_full v.inputs v.len v.words.now c.args.w c.requires.sound c.in_default.ensures c.if-self.true }
 
 pub returns : goal.returns
 returns c =
     let v = c.args.self.now in
     record {
-      sound = keep_sound v.inputs v.len v.words.now c.args.w c.requires.sound c.requires.fits c.in-default.ensures c.if-self.false;
-      makes = keep_new v.inputs v.len v.words.now c.args.w c.requires.sound c.requires.fits c.in-default.ensures c.if-self.false;
+      sound = keep_sound v.inputs v.len v.words.now c.args.w c.requires.sound c.requires.fits c.in_default.ensures c.if-self.false;
+      makes = keep_new v.inputs v.len v.words.now c.args.w c.requires.sound c.requires.fits c.in_default.ensures c.if-self.false;
     }

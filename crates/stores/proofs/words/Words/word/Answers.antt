@@ -9,8 +9,8 @@ returns-in-1 c =
     let v = c.args.self.now in
     record { fits = rw c.full.ensures (ones_lt (points v.inputs)); means = means_one v.inputs v.len v.words.now c.args.h c.full.result c.in-1.is c.full.ensures }
 
-pub returns-in-default : goal.returns-in-default
-returns-in-default c =
+pub returns-in_default : goal.returns-in_default
+returns-in_default c =
     let v = c.args.self.now in
     let two : 2 ≤ c.args.h = omega arith in
     record { fits = c.requires.sound.small (c.args.h - 2) (omega (arith, c.requires.held)); means = means_word v.inputs v.len v.words.now c.args.h c.requires.sound.within two c.requires.held }

@@ -14,10 +14,10 @@ returns-then-self-f c h =
       | then-self-f-via-else-self-f+then-self-a w ↦ omega (arith, h.1, w.if-self-a.true, one_shl v.inputs 64 (omega (arith, c.requires.few)))
     ]
 
-in_range : (c : goal.After-row-known·1) → c.args.a < 2 ^ c.args.self.now.inputs
+in_range : (c : goal.After-row_known-1) → c.args.a < 2 ^ c.args.self.now.inputs
 in_range c = omega (arith, c.if-self-a.false, one_shl c.args.self.now.inputs 64 (omega (arith, c.requires.few)))
 
-the_point : (c : goal.After-row-known·1) → c.if-e.p ≡ point c.args.self.now.inputs c.args.e c.args.a
+the_point : (c : goal.After-row_known-1) → c.if-e.p ≡ point c.args.self.now.inputs c.args.e c.args.a
 the_point c =
     let s = one_shl c.args.self.now.inputs 64 (omega (arith, c.requires.few)) in
     elim c.if-e.branch [
@@ -25,8 +25,8 @@ the_point c =
       | else-e w ↦ rw w.if-e.false (omega (arith, w.p-is))
     ]
 
-pub overflow-shr-result : goal.overflow-shr-result
-overflow-shr-result c =
+pub overflow_shr-result : goal.overflow_shr-result
+overflow_shr-result c =
     let n = c.args.self.now.inputs in
     omega (arith, the_point c, point_below n c.args.e c.args.a (in_range c), points_le n c.requires.few)
 

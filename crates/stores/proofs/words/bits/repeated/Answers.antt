@@ -5,17 +5,17 @@ use Rattle.stores.proofs.WordBits.{half_is, half_below, whole_is, repeated_is, t
 use Rattle.stores.proofs.words.bits.repeated.Goals as goal
 use Rattle.stores.proofs.words.bits.repeated.Goals.{then-bit, else-bit}
 
-pub overflow-shr-part : goal.overflow-shr-part
-overflow-shr-part c = half_below c.args.inputs c.requires.few
+pub overflow_shr-part : goal.overflow_shr-part
+overflow_shr-part c = half_below c.args.inputs c.requires.few
 
-pub overflow-shl-part : goal.overflow-shl-part
-overflow-shl-part c = half_below c.args.inputs c.requires.few
+pub overflow_shl-part : goal.overflow_shl-part
+overflow_shl-part c = half_below c.args.inputs c.requires.few
 
-pub nonzero-rem-part : goal.nonzero-rem-part
-nonzero-rem-part c = rw (whole_is c.args.inputs c.requires.few) (pow_pos (2 ^ c.args.inputs))
+pub nonzero_rem-part : goal.nonzero_rem-part
+nonzero_rem-part c = rw (whole_is c.args.inputs c.requires.few) (pow_pos (2 ^ c.args.inputs))
 
-pub overflow-shl-result : goal.overflow-shl-result
-overflow-shl-result c = half_below c.args.inputs c.requires.few
+pub overflow_shl-result : goal.overflow_shl-result
+overflow_shl-result c = half_below c.args.inputs c.requires.few
 
 pub returns : goal.returns
 returns c =

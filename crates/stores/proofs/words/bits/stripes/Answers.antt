@@ -17,5 +17,5 @@ returns-in-3 c = stripes_3 c.args.k (omega arith)
 pub returns-in-4 : goal.returns-in-4
 returns-in-4 c = stripes_4 c.args.k (omega arith)
 
-pub returns-in-default : goal.returns-in-default
-returns-in-default c = stripes_5 c.args.k (omega arith)
+pub returns-in_default : goal.returns-in_default
+returns-in_default c = stripes_5 c.args.k (omega arith)

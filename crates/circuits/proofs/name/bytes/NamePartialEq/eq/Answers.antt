@@ -4,5 +4,5 @@ use Rattle.circuits.proofs.name.bytes.NamePartialEq.eq.Goals as goal
 
 pub returns : goal.returns
 returns c =
-    rw (← c.as-bytes.ensures, ← c.as-bytes-2.ensures)
-    (same_from_decides _ _ (slice_eq-Decides Decides-eqb c.as-bytes.result.now c.as-bytes-2.result.now c.eq.result c.eq.ensures) (bytes_eq-Decides _ _))
+    rw (← c.as_bytes.ensures, ← c.as_bytes-2.ensures)
+    (same_from_decides _ _ (slice_eq-Decides Decides-eqb c.as_bytes.result.now c.as_bytes-2.result.now c.eq.result c.eq.ensures) (bytes_eq-Decides _ _))
