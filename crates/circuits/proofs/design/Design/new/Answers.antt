@@ -7,17 +7,18 @@ use Rattle.circuits.proofs.design.Design.new.Goals as goal
 
 pub invariant_of-name : goal.invariant_of-name
 unfolding holds_front all_blank is_name letters
-invariant_of-name c = (refl, (refl, tt))
+invariant_of-name c = record { table = refl; good = refl }
 
 pub invariant_of-result : goal.invariant_of-result
 invariant_of-result c =
     let i = c.in_ok-inputs.ensures in
     let g = c.in_ok-gates.ensures in
     let o = c.in_ok-outputs.ensures in
-    let r = c.in_ok-rows.ensures in (
-      smallest_legal _ _ _ _ _ (alone _ _ _ i.items c.push_reserved.ensures.items) g.items (alone _ _ _ o.items c.push_reserved-2.ensures.items) r.items,
-      (room_from _ _ _ _ (record { for_inputs = omega arith; for_gates = g.capacity; for_outputs = omega arith; for_rows = r.capacity }), tt),
-    )
+    let r = c.in_ok-rows.ensures in
+    record {
+      lawful = smallest_legal _ _ _ _ _ (alone _ _ _ i.items c.push_reserved.ensures.items) g.items (alone _ _ _ o.items c.push_reserved-2.ensures.items) r.items;
+      room = room_from _ _ _ _ (record { for_inputs = omega arith; for_gates = g.capacity; for_outputs = omega arith; for_rows = r.capacity });
+    }
 
 pub returns : goal.returns
 returns c =

@@ -16,4 +16,4 @@ pub invariant_of-self : goal.invariant_of-self
 invariant_of-self c =
     let d = draft_parts c.args.self.now in
     let k = drafted_from _ _ (input_added d c.args.name (rules _ _ c.args.self.now.lawful) (no_fault c)) in
-    (rw c.push_reserved.ensures.items k, (rw c.push_reserved.ensures.capacity c.args.self.now.room, tt))
+    record { lawful = rw c.push_reserved.ensures.items k; room = rw c.push_reserved.ensures.capacity c.args.self.now.room }

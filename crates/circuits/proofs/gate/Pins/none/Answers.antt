@@ -4,4 +4,4 @@ use Rattle.circuits.proofs.gate.Pins.none.Goals as goal
 
 pub invariant_of-result : goal.invariant_of-result
 unfolding holds_front all_blank
-invariant_of-result c = (refl, tt)
+invariant_of-result c = record { good = refl }

@@ -22,7 +22,7 @@ overflow_add-self c = let f = front_parts unused 4 c.args.self.now.table c.args.
 pub invariant_of-self : goal.invariant_of-self
 invariant_of-self c =
     let f = front_parts unused 4 c.args.self.now.table c.args.self.now.len c.args.self.now.good in
-    (front_from unused 4 _ _ (front_more unused 4 c.args.self.now.table c.args.self.now.len c.args.pin (omega arith) f), tt)
+    record { good = front_from unused 4 _ _ (front_more unused 4 c.args.self.now.table c.args.self.now.len c.args.pin (omega arith) f) }
 
 pub returns : goal.returns
 returns c =

@@ -24,7 +24,7 @@ loop-i-preserved c =
 pub invariant_of-result : goal.invariant_of-result
 invariant_of-result c =
     let w = copied_all c.args.bytes.now c.loop-i.table c.loop-i.i (sym c.if-is_empty.ensures) c.if-bytes-gt8.false (omega arith) c.loop-i.invariant in
-    (w.0, (rw w.2 w.1, tt))
+    record { table = w.0; good = rw w.2 w.1 }
 
 pub returns : goal.returns
 returns c =

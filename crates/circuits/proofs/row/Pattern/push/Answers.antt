@@ -19,7 +19,7 @@ overflow_add-self c = let f = front_parts is_dash 12 c.args.self.now.literals c.
 pub invariant_of-self : goal.invariant_of-self
 invariant_of-self c =
     let f = front_parts is_dash 12 c.args.self.now.literals c.args.self.now.len c.args.self.now.good in
-    (front_from is_dash 12 _ _ (front_more is_dash 12 c.args.self.now.literals c.args.self.now.len c.args.literal (omega arith) f), tt)
+    record { good = front_from is_dash 12 _ _ (front_more is_dash 12 c.args.self.now.literals c.args.self.now.len c.args.literal (omega arith) f) }
 
 pub returns : goal.returns
 returns c =
