@@ -10,26 +10,26 @@ use Rattle.texts.specs.Faults.{cause_of}
 use Rattle.texts.proofs.Additions.{gate_same}
 use Rattle.texts.proofs.Forms.{left_of}
 use Rattle.texts.proofs.add.add_gate.Goals as goal
-use Rattle.texts.proofs.add.add_gate.Goals.{In-ok-pins}
+use Rattle.texts.proofs.add.add_gate.Goals.{In_ok-pins}
 
-abbrev made : In-ok-pins → Gate
-made c = record { name = c.args.name; kind = c.args.kind; pins = c.in-ok-pins.pins }
+abbrev made : In_ok-pins → Gate
+made c = record { name = c.args.name; kind = c.args.kind; pins = c.in_ok-pins.pins }
 
 -- What is left to check is checked by the draft.
-same : (c : In-ok-pins) → gate_cause (draft_parts c.args.draft.now) (name_bytes c.args.name) c.args.kind (left_of c.args.fields) ≡ option_map cause_of (gate_fault (draft_parts c.args.draft.now) (made c))
+same : (c : In_ok-pins) → gate_cause (draft_parts c.args.draft.now) (name_bytes c.args.name) c.args.kind (left_of c.args.fields) ≡ option_map cause_of (gate_fault (draft_parts c.args.draft.now) (made c))
 same c =
     gate_same (draft_parts c.args.draft.now) (made c) (left_of c.args.fields) c.requires (lt-leb 64 (length (draft_parts c.args.draft.now).circuit.gates) (omega arith))
-    (ap is_some (sym c.stem.ensures) ∙ sym c.if-is-some.ensures) c.in-ok-pins.ensures
+    (ap is_some (sym c.stem.ensures) ∙ sym c.if-is_some.ensures) c.in_ok-pins.ensures
 
-pub returns-in-err-add-gate : goal.returns-in-err-add-gate
-returns-in-err-add-gate c =
-    let p = err_from_is_err_and c.from-residual-in-err-add-gate.result c.from-residual-in-err-add-gate.ensures.1 in
-    let told = c.in-err-add-gate.ensures in
-    rw (p.1, p.2) (same (goal.at.returns-in-err-add-gate c).In-ok-pins ∙ ap (option_map cause_of) told.0, told.1)
+pub returns-in_err-add_gate : goal.returns-in_err-add_gate
+returns-in_err-add_gate c =
+    let p = err_from_is_err_and c.from_residual-in_err-add_gate.result c.from_residual-in_err-add_gate.ensures.1 in
+    let told = c.in_err-add_gate.ensures in
+    rw (p.1, p.2) (same (goal.at.returns-in_err-add_gate c).In_ok-pins ∙ ap (option_map cause_of) told.0, told.1)
 
 pub returns : goal.returns
 returns c =
-    let told = c.in-ok-add-gate.ensures in (
-      same (goal.at.returns c).In-ok-pins ∙ ap (option_map cause_of) told.0,
-      record { gate = made (goal.at.returns c).In-ok-pins; named = refl; of_kind = refl; with_pins = c.in-ok-pins.ensures; added = told.1 },
+    let told = c.in_ok-add_gate.ensures in (
+      same (goal.at.returns c).In_ok-pins ∙ ap (option_map cause_of) told.0,
+      record { gate = made (goal.at.returns c).In_ok-pins; named = refl; of_kind = refl; with_pins = c.in_ok-pins.ensures; added = told.1 },
     )

@@ -19,15 +19,15 @@ same : (c : In-Some) → output_cause (draft_parts c.args.draft.now) (name_bytes
 same c =
     output_same (draft_parts c.args.draft.now) (made c) (name_bytes c.args.stem.now) c.requires (lt-leb 16 (length (draft_parts c.args.draft.now).circuit.outputs) (omega arith)) (sym c.in-Some.ensures)
 
-pub returns-in-err-add-output : goal.returns-in-err-add-output
-returns-in-err-add-output c =
-    let p = err_from_is_err_and c.from-residual.result c.from-residual.ensures.1 in
-    let told = c.in-err-add-output.ensures in
-    rw (p.1, p.2) (same (goal.at.returns-in-err-add-output c).In-Some ∙ ap (option_map cause_of) told.0, told.1)
+pub returns-in_err-add_output : goal.returns-in_err-add_output
+returns-in_err-add_output c =
+    let p = err_from_is_err_and c.from_residual.result c.from_residual.ensures.1 in
+    let told = c.in_err-add_output.ensures in
+    rw (p.1, p.2) (same (goal.at.returns-in_err-add_output c).In-Some ∙ ap (option_map cause_of) told.0, told.1)
 
 pub returns : goal.returns
 returns c =
-    let told = c.in-ok-add-output.ensures in (
+    let told = c.in_ok-add_output.ensures in (
       same (goal.at.returns c).In-Some ∙ ap (option_map cause_of) told.0,
       record { output = made (goal.at.returns c).In-Some; named = refl; marked = refl; reads = sym c.in-Some.ensures; added = told.1 },
     )

@@ -3,5 +3,5 @@ use Rattle.circuits.specs.Drafts.{draft_parts}
 use Rattle.texts.proofs.Lookups.{no_pin}
 use Rattle.texts.proofs.add.read_pin.Goals as goal
 
-pub returns-in-err-name : goal.returns-in-err-name
-returns-in-err-name c = rw c.from-residual.ensures (sym (no_pin (draft_parts c.args.draft.now) c.args.field.now c.marked-mark.result.1.now c.marked-mark.ensures.name c.in-err-name.ensures))
+pub returns-in_err-name : goal.returns-in_err-name
+returns-in_err-name c = rw c.from_residual.ensures (sym (no_pin (draft_parts c.args.draft.now) c.args.field.now c.marked-mark.result.1.now c.marked-mark.ensures.name c.in_err-name.ensures))

@@ -9,30 +9,30 @@ use Rattle.texts.proofs.add.read_pins.Goals as goal
 pub loop-rest-init : goal.loop-rest-init
 loop-rest-init c = read_none (draft_parts c.args.draft.now) c.args.fields c.none-pins.result c.none-pins.ensures
 
-pub returns-in-default-read-pin : goal.returns-in-default-read-pin
-returns-in-default-read-pin c =
-    rw (read_unknown (draft_parts c.args.draft.now) (left_of c.args.fields) c.loop-rest.pins c.loop-rest.room c.loop-rest.rest c.first-field.result.1 c.in-Some.«record» c.first-field.result.0.now c.in-Some.is c.first-field.ensures.all c.in-default-read-pin.ensures c.loop-rest.invariant) refl
+pub returns-in_default-read_pin : goal.returns-in_default-read_pin
+returns-in_default-read_pin c =
+    rw (read_unknown (draft_parts c.args.draft.now) (left_of c.args.fields) c.loop-rest.pins c.loop-rest.room c.loop-rest.rest c.first_field.result.1 c.in-Some.«record» c.first_field.result.0.now c.in-Some.is c.first_field.ensures.all c.in_default-read_pin.ensures c.loop-rest.invariant) refl
 
 pub loop-rest-smaller-then-not-push : goal.loop-rest-smaller-then-not-push
-loop-rest-smaller-then-not-push c = rw c.in-Some.is (after_less comma c.in-Some.«record».now _ c.first-field.ensures.rest)
+loop-rest-smaller-then-not-push c = rw c.in-Some.is (after_less comma c.in-Some.«record».now _ c.first_field.ensures.rest)
 
 pub loop-rest-preserved-then-not-push : goal.loop-rest-preserved-then-not-push
 loop-rest-preserved-then-not-push c =
-    read_over (draft_parts c.args.draft.now) (left_of c.args.fields) c.loop-rest.pins c.push.new.self c.loop-rest.room c.loop-rest.rest c.first-field.result.1 c.in-Some.«record» c.first-field.result.0.now
-    c.in-Some-read-pin.pin c.in-Some.is c.first-field.ensures.all c.in-Some-read-pin.ensures c.if-not-push.ensures.room c.loop-rest.invariant
+    read_over (draft_parts c.args.draft.now) (left_of c.args.fields) c.loop-rest.pins c.push.new.self c.loop-rest.room c.loop-rest.rest c.first_field.result.1 c.in-Some.«record» c.first_field.result.0.now
+    c.in-Some-read_pin.pin c.in-Some.is c.first_field.ensures.all c.in-Some-read_pin.ensures c.if-not-push.ensures.room c.loop-rest.invariant
 
 pub loop-rest-smaller : goal.loop-rest-smaller
-loop-rest-smaller c = rw c.in-Some.is (after_less comma c.in-Some.«record».now _ c.first-field.ensures.rest)
+loop-rest-smaller c = rw c.in-Some.is (after_less comma c.in-Some.«record».now _ c.first_field.ensures.rest)
 
 pub loop-rest-preserved : goal.loop-rest-preserved
 loop-rest-preserved c =
-    read_kept (draft_parts c.args.draft.now) (left_of c.args.fields) c.loop-rest.pins c.push.new.self c.loop-rest.room c.loop-rest.rest c.first-field.result.1 c.in-Some.«record» c.first-field.result.0.now
-    c.in-Some-read-pin.pin c.in-Some.is c.first-field.ensures.all c.in-Some-read-pin.ensures c.if-not-push.ensures.added c.loop-rest.invariant
+    read_kept (draft_parts c.args.draft.now) (left_of c.args.fields) c.loop-rest.pins c.push.new.self c.loop-rest.room c.loop-rest.rest c.first_field.result.1 c.in-Some.«record» c.first_field.result.0.now
+    c.in-Some-read_pin.pin c.in-Some.is c.first_field.ensures.all c.in-Some-read_pin.ensures c.if-not-push.ensures.added c.loop-rest.invariant
 
 pub returns-then-not-room : goal.returns-then-not-room
 returns-then-not-room c =
-    rw (read_end (draft_parts c.args.draft.now) (left_of c.args.fields) c.loop-rest.pins c.loop-rest.room c.loop-rest.rest c.in-default.is c.loop-rest.invariant) (c.loop-rest.invariant.over c.if-not-room.true, refl)
+    rw (read_end (draft_parts c.args.draft.now) (left_of c.args.fields) c.loop-rest.pins c.loop-rest.room c.loop-rest.rest c.in_default.is c.loop-rest.invariant) (c.loop-rest.invariant.over c.if-not-room.true, refl)
 
 pub returns : goal.returns
 returns c =
-    read_end (draft_parts c.args.draft.now) (left_of c.args.fields) c.loop-rest.pins c.loop-rest.room c.loop-rest.rest c.in-default.is c.loop-rest.invariant ∙ ap Some (c.loop-rest.invariant.kept c.if-not-room.false)
+    read_end (draft_parts c.args.draft.now) (left_of c.args.fields) c.loop-rest.pins c.loop-rest.room c.loop-rest.rest c.in_default.is c.loop-rest.invariant ∙ ap Some (c.loop-rest.invariant.kept c.if-not-room.false)

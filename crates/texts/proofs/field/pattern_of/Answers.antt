@@ -4,8 +4,8 @@ use Rattle.std.proofs.lemmas.Bool.{ltb-false}
 use Rattle.texts.proofs.Words.{bad_literal, long_pattern, pattern_length, pattern_more, pattern_whole}
 use Rattle.texts.proofs.field.pattern_of.Goals as goal
 
-pub returns-in-err-literal : goal.returns-in-err-literal
-returns-in-err-literal c = rw c.from-residual.ensures (λ ls few e. bad_literal c.args.field.now c.loop-byte.byte-index (omega arith) c.in-err-literal.ensures ls e)
+pub returns-in_err-literal : goal.returns-in_err-literal
+returns-in_err-literal c = rw c.from_residual.ensures (λ ls few e. bad_literal c.args.field.now c.loop-byte.byte-index (omega arith) c.in_err-literal.ensures ls e)
 
 pub returns-then-not-push : goal.returns-then-not-push
 returns-then-not-push c =
@@ -16,7 +16,7 @@ returns-then-not-push c =
 pub loop-byte-preserved : goal.loop-byte-preserved
 loop-byte-preserved c =
     rw c.if-not-push.ensures.added
-    (pattern_more c.args.field.now c.loop-byte.byte-index (literal_list c.loop-byte.pattern) c.in-ok-literal.literal (omega arith) c.in-ok-literal.ensures c.loop-byte.invariant)
+    (pattern_more c.args.field.now c.loop-byte.byte-index (literal_list c.loop-byte.pattern) c.in_ok-literal.literal (omega arith) c.in_ok-literal.ensures c.loop-byte.invariant)
 
 pub returns : goal.returns
 returns c = pattern_whole c.args.field.now c.loop-byte.byte-index _ (omega arith) c.loop-byte.invariant

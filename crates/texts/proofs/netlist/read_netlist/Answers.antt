@@ -16,41 +16,41 @@ loop-place-init c = (
   (ap (λ d. d.circuit.gates) c.requires, ap (λ d. d.circuit.outputs) c.requires, ap (λ d. d.rows) c.requires),
 )
 
-pub overflow-add-place : goal.overflow-add-place
-overflow-add-place c = let w = record_within c.args.netlist.now c.loop-place.place (omega arith) in omega arith
+pub overflow_add-place : goal.overflow_add-place
+overflow_add-place c = let w = record_within c.args.netlist.now c.loop-place.place (omega arith) in omega arith
 
 pub returns-in-Err : goal.returns-in-Err
 returns-in-Err c =
-    at_record _ (going_stopped NetlistStep c.args.netlist.now start Netlist c.loop-place.earlier c.loop-place.place c.record-length-length.result (c.loop-place.group, draft_parts c.loop-place.draft) c.in-Err.cause (omega arith) c.record-length-length.ensures c.in-Err.ensures.taken c.loop-place.invariant.0)
+    at_record _ (going_stopped NetlistStep c.args.netlist.now start Netlist c.loop-place.earlier c.loop-place.place c.record_length-length.result (c.loop-place.group, draft_parts c.loop-place.draft) c.in-Err.cause (omega arith) c.record_length-length.ensures c.in-Err.ensures.taken c.loop-place.invariant.0)
 
 -- the record that was taken has a line feed
-on : (c : In-Ok) → c.loop-place.place + c.record-length-length.result < length c.args.netlist.now
-on c = rw c.record-length-length.ensures (fed NetlistStep c.args.netlist.now start c.loop-place.place _ _ c.in-Ok.ensures.taken)
+on : (c : In-Ok) → c.loop-place.place + c.record_length-length.result < length c.args.netlist.now
+on c = rw c.record_length-length.ensures (fed NetlistStep c.args.netlist.now start c.loop-place.place _ _ c.in-Ok.ensures.taken)
 
-pub overflow-add-place-in-loop-place : goal.overflow-add-place-in-loop-place
-overflow-add-place-in-loop-place c = omega (arith, on (goal.at.overflow-add-place-in-loop-place c).In-Ok)
+pub overflow_add-place-in-loop-place : goal.overflow_add-place-in-loop-place
+overflow_add-place-in-loop-place c = omega (arith, on (goal.at.overflow_add-place-in-loop-place c).In-Ok)
 
-pub overflow-add-place-in-loop-place-2 : goal.overflow-add-place-in-loop-place-2
-overflow-add-place-in-loop-place-2 c = omega (arith, on (goal.at.overflow-add-place-in-loop-place-2 c).In-Ok)
+pub overflow_add-place-in-loop-place-2 : goal.overflow_add-place-in-loop-place-2
+overflow_add-place-in-loop-place-2 c = omega (arith, on (goal.at.overflow_add-place-in-loop-place-2 c).In-Ok)
 
 pub loop-place-preserved : goal.loop-place-preserved
 loop-place-preserved c = (
-  going_more NetlistStep c.args.netlist.now start c.loop-place.earlier c.loop-place.place _ c.record-length-length.result (c.loop-place.group, draft_parts c.loop-place.draft) _ (omega arith) c.record-length-length.ensures refl c.in-Ok.ensures.taken c.loop-place.invariant.0,
+  going_more NetlistStep c.args.netlist.now start c.loop-place.earlier c.loop-place.place _ c.record_length-length.result (c.loop-place.group, draft_parts c.loop-place.draft) _ (omega arith) c.record_length-length.ensures refl c.in-Ok.ensures.taken c.loop-place.invariant.0,
   c.in-Ok.ensures.onward,
 )
 
-pub returns-then-not-is-whole : goal.returns-then-not-is-whole
-returns-then-not-is-whole c =
+pub returns-then-not-is_whole : goal.returns-then-not-is_whole
+returns-then-not-is_whole c =
     let s : Group × Parts = (c.loop-place.group, draft_parts c.loop-place.draft) in
     let end = going_end NetlistStep c.args.netlist.now start Netlist c.loop-place.earlier c.loop-place.place s Limit (omega arith) c.loop-place.invariant.0 in
     let all = going_all NetlistStep c.args.netlist.now start c.loop-place.earlier c.loop-place.place s (omega arith) c.loop-place.invariant.0 in
     subst (NetlistRefused c.args.netlist.now) end
-    (at_end c.loop-place.earlier c.loop-place.group (draft_parts c.loop-place.draft) c.loop-place.invariant.0.taken all c.if-not-is-whole.ensures)
+    (at_end c.loop-place.earlier c.loop-place.group (draft_parts c.loop-place.draft) c.loop-place.invariant.0.taken all c.if-not-is_whole.ensures)
 
 pub returns : goal.returns
 returns c =
     record {
       group = c.loop-place.group;
       through = going_through NetlistStep c.args.netlist.now start c.loop-place.earlier c.loop-place.place (c.loop-place.group, draft_parts c.loop-place.draft) (omega arith) c.loop-place.invariant.0;
-      whole = c.if-not-is-whole.ensures;
+      whole = c.if-not-is_whole.ensures;
     }

@@ -8,13 +8,13 @@ use Rattle.texts.proofs.netlist.take_at.Goals as goal
 pub returns-then-stop-netlist : goal.returns-then-stop-netlist
 returns-then-stop-netlist c = record { taken = unended (sym c.requires.stops ∙ c.if-stop-netlist.true); onward = tt }
 
-pub slice-bounds-take-record-end : goal.slice-bounds-take-record-end
-slice-bounds-take-record-end c = let w = record_within c.args.netlist.now c.args.place c.requires.within in omega arith
+pub slice_bounds-take_record-end : goal.slice_bounds-take_record-end
+slice_bounds-take_record-end c = let w = record_within c.args.netlist.now c.args.place c.requires.within in omega arith
 
 pub returns : goal.returns
 returns c =
     let w = record_within c.args.netlist.now c.args.place c.requires.within in
     record {
-      taken = taken_at (draft_parts c.args.draft.now) _ c.args.group c.args.netlist.now _ c.args.place c.take-record.result (record_part c.args.netlist.now c.args.place c.args.stop c.requires.stops) (omega arith) c.take-record.ensures.exact;
-      onward = c.take-record.ensures.onward;
+      taken = taken_at (draft_parts c.args.draft.now) _ c.args.group c.args.netlist.now _ c.args.place c.take_record.result (record_part c.args.netlist.now c.args.place c.args.stop c.requires.stops) (omega arith) c.take_record.ensures.exact;
+      onward = c.take_record.ensures.onward;
     }

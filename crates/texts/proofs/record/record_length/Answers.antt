@@ -4,4 +4,4 @@ use Rattle.texts.specs.Records.{before, feed}
 use Rattle.texts.proofs.record.record_length.Goals as goal
 
 pub returns : goal.returns
-returns c = c.length-before.ensures ∙ ap (λ x. length (before feed x)) (take_rest c.args.text.now c.args.place)
+returns c = c.length_before.ensures ∙ ap (λ x. length (before feed x)) (take_rest c.args.text.now c.args.place)

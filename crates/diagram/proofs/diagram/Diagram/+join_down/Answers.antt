@@ -10,80 +10,80 @@ returns-in-Some t c =
     let d = c.args.self.now in
     record { sound = c.requires.sound; extends = extends_none d.inputs d.len d.rows.now; builds = settled_built d.inputs d.len d.rows.now d.heads c.requires.sound c.args.op c.args.f c.args.g c.requires.left c.requires.right c.in-Some.h c.in-Some.ensures }
 
-pub returns-in-err-low : goal.returns-in-err-low
-returns-in-err-low t c =
+pub returns-in_err-low : goal.returns-in_err-low
+returns-in_err-low t c =
     let d = c.args.self.now in
-    let f = c.parts-f-low.result in
-    let g = c.parts-g-low.result in
+    let f = c.parts-f_low.result in
+    let g = c.parts-g_low.result in
     let v : c.min-v.result ≡ min (top_of d c.args.f) (top_of d c.args.g) = c.min-v.ensures ∙ (ap (λ z. min z c.top-2.result) c.top.ensures ∙ ap (λ z. min (top_of d c.args.f) z) c.top-2.ensures) in
-    let d₁ = c.join-down.new.self in
-    let y = c.in-err-low.ensures in
-    let e = c.in-err-low.field-0.0 in
+    let d₁ = c.join_down.new.self in
+    let y = c.in_err-low.ensures in
+    let e = c.in_err-low.field-0.0 in
     record {
       sound = y.sound;
       extends = y.extends;
-      builds = subst (λ z. BuildsOf d.inputs d.len d.rows.now (joined c.args.op (function_of d c.args.f) (function_of d c.args.g)) z c.from-residual.result d₁.len d₁.rows.now) v
-          (builds_exit d.inputs d.len d.rows.now (joined c.args.op (function_of d c.args.f) (function_of d c.args.g)) c.min-v.result c.from-residual.result d₁.len d₁.rows.now e c.from-residual.ensures.1
-          (low_refused d.inputs d.len d.rows.now d.heads c.requires.sound c.args.op c.args.f c.args.g c.min-v.result f.0 f.1 g.0 g.1 c.parts-f-low.ensures c.parts-g-low.ensures (min (top_of d f.0) (top_of d g.0)) d₁.len d₁.rows.now e y.builds));
+      builds = subst (λ z. BuildsOf d.inputs d.len d.rows.now (joined c.args.op (function_of d c.args.f) (function_of d c.args.g)) z c.from_residual.result d₁.len d₁.rows.now) v
+          (builds_exit d.inputs d.len d.rows.now (joined c.args.op (function_of d c.args.f) (function_of d c.args.g)) c.min-v.result c.from_residual.result d₁.len d₁.rows.now e c.from_residual.ensures.1
+          (low_refused d.inputs d.len d.rows.now d.heads c.requires.sound c.args.op c.args.f c.args.g c.min-v.result f.0 f.1 g.0 g.1 c.parts-f_low.ensures c.parts-g_low.ensures (min (top_of d f.0) (top_of d g.0)) d₁.len d₁.rows.now e y.builds));
     }
 
-pub join-down-requires-2 : goal.join-down-requires-2
-join-down-requires-2 t c =
+pub join_down-requires-2 : goal.join_down-requires-2
+join_down-requires-2 t c =
     let d = c.args.self.now in
-    let f = c.parts-f-low.result in
-    let g = c.parts-g-low.result in
+    let f = c.parts-f_low.result in
+    let g = c.parts-g_low.result in
     let v : c.min-v.result ≡ min (top_of d c.args.f) (top_of d c.args.g) = c.min-v.ensures ∙ (ap (λ z. min z c.top-2.result) c.top.ensures ∙ ap (λ z. min (top_of d c.args.f) z) c.top-2.ensures) in
-    let d₁ = c.join-down.new.self in
-    let y = c.in-ok-low.ensures in
-    let (falls, left, right) = high_ready d.inputs d.len d.rows.now d.heads c.requires.sound c.args.op c.args.f c.args.g c.min-v.result f.0 f.1 g.0 g.1 c.parts-f-low.ensures c.parts-g-low.ensures d₁.inputs d₁.len d₁.rows.now y.extends in
+    let d₁ = c.join_down.new.self in
+    let y = c.in_ok-low.ensures in
+    let (falls, left, right) = high_ready d.inputs d.len d.rows.now d.heads c.requires.sound c.args.op c.args.f c.args.g c.min-v.result f.0 f.1 g.0 g.1 c.parts-f_low.ensures c.parts-g_low.ensures d₁.inputs d₁.len d₁.rows.now y.extends in
     let m = c.decreases in
     (omega arith, (y.sound, (left, right)))
 
-pub returns-in-err-high : goal.returns-in-err-high
-returns-in-err-high t c =
+pub returns-in_err-high : goal.returns-in_err-high
+returns-in_err-high t c =
     let d = c.args.self.now in
-    let f = c.parts-f-low.result in
-    let g = c.parts-g-low.result in
+    let f = c.parts-f_low.result in
+    let g = c.parts-g_low.result in
     let v : c.min-v.result ≡ min (top_of d c.args.f) (top_of d c.args.g) = c.min-v.ensures ∙ (ap (λ z. min z c.top-2.result) c.top.ensures ∙ ap (λ z. min (top_of d c.args.f) z) c.top-2.ensures) in
-    let d₁ = c.join-down.new.self in
-    let d₂ = c.join-down-2.new.self in
-    let x = c.in-ok-low.ensures in
-    let y = c.in-err-high.ensures in
-    let e = c.in-err-high.field-0.0 in
+    let d₁ = c.join_down.new.self in
+    let d₂ = c.join_down-2.new.self in
+    let x = c.in_ok-low.ensures in
+    let y = c.in_err-high.ensures in
+    let e = c.in_err-high.field-0.0 in
     record {
       sound = y.sound;
       extends = extends_then d.inputs d.len d.rows.now d₁.inputs d₁.len d₁.rows.now d₂.inputs d₂.len d₂.rows.now x.extends y.extends;
-      builds = subst (λ z. BuildsOf d.inputs d.len d.rows.now (joined c.args.op (function_of d c.args.f) (function_of d c.args.g)) z c.from-residual-in-err-high.result d₂.len d₂.rows.now) v
-          (builds_exit d.inputs d.len d.rows.now (joined c.args.op (function_of d c.args.f) (function_of d c.args.g)) c.min-v.result c.from-residual-in-err-high.result d₂.len d₂.rows.now e c.from-residual-in-err-high.ensures.1
-          (high_exit d.inputs d.len d.rows.now d.heads c.requires.sound c.args.op c.args.f c.args.g c.min-v.result f.0 f.1 g.0 g.1 c.parts-f-low.ensures c.parts-g-low.ensures d₁.inputs d₁.len d₁.rows.now x.extends x.builds.0 d₂.len d₂.rows.now e y.builds));
+      builds = subst (λ z. BuildsOf d.inputs d.len d.rows.now (joined c.args.op (function_of d c.args.f) (function_of d c.args.g)) z c.from_residual-in_err-high.result d₂.len d₂.rows.now) v
+          (builds_exit d.inputs d.len d.rows.now (joined c.args.op (function_of d c.args.f) (function_of d c.args.g)) c.min-v.result c.from_residual-in_err-high.result d₂.len d₂.rows.now e c.from_residual-in_err-high.ensures.1
+          (high_exit d.inputs d.len d.rows.now d.heads c.requires.sound c.args.op c.args.f c.args.g c.min-v.result f.0 f.1 g.0 g.1 c.parts-f_low.ensures c.parts-g_low.ensures d₁.inputs d₁.len d₁.rows.now x.extends x.builds.0 d₂.len d₂.rows.now e y.builds));
     }
 
 pub node-requires : goal.node-requires
 node-requires t c =
     let d = c.args.self.now in
-    let f = c.parts-f-low.result in
-    let g = c.parts-g-low.result in
-    let d₁ = c.join-down.new.self in
-    let d₂ = c.join-down-2.new.self in
-    let x = c.in-ok-low.ensures in
-    let y = c.in-ok-high.ensures in
-    record { sound = y.sound; later = node_ready d.inputs d.len d.rows.now d.heads c.requires.sound c.args.op c.args.f c.args.g c.min-v.result f.0 f.1 g.0 g.1 c.parts-f-low.ensures c.parts-g-low.ensures d₁.inputs d₁.len d₁.rows.now x.extends c.in-ok-low.low x.builds d₂.inputs d₂.len d₂.rows.now y.extends c.in-ok-high.high y.builds }
+    let f = c.parts-f_low.result in
+    let g = c.parts-g_low.result in
+    let d₁ = c.join_down.new.self in
+    let d₂ = c.join_down-2.new.self in
+    let x = c.in_ok-low.ensures in
+    let y = c.in_ok-high.ensures in
+    record { sound = y.sound; later = node_ready d.inputs d.len d.rows.now d.heads c.requires.sound c.args.op c.args.f c.args.g c.min-v.result f.0 f.1 g.0 g.1 c.parts-f_low.ensures c.parts-g_low.ensures d₁.inputs d₁.len d₁.rows.now x.extends c.in_ok-low.low x.builds d₂.inputs d₂.len d₂.rows.now y.extends c.in_ok-high.high y.builds }
 
 pub returns : goal.returns
 returns t c =
     let d = c.args.self.now in
-    let f = c.parts-f-low.result in
-    let g = c.parts-g-low.result in
+    let f = c.parts-f_low.result in
+    let g = c.parts-g_low.result in
     let v : c.min-v.result ≡ min (top_of d c.args.f) (top_of d c.args.g) = c.min-v.ensures ∙ (ap (λ z. min z c.top-2.result) c.top.ensures ∙ ap (λ z. min (top_of d c.args.f) z) c.top-2.ensures) in
-    let d₁ = c.join-down.new.self in
-    let d₂ = c.join-down-2.new.self in
+    let d₁ = c.join_down.new.self in
+    let d₂ = c.join_down-2.new.self in
     let d₃ = c.node.new.self in
-    let x = c.in-ok-low.ensures in
-    let y = c.in-ok-high.ensures in
+    let x = c.in_ok-low.ensures in
+    let y = c.in_ok-high.ensures in
     record {
       sound = c.node.ensures.sound;
       extends = extends_then d.inputs d.len d.rows.now d₂.inputs d₂.len d₂.rows.now d₃.inputs d₃.len d₃.rows.now
           (extends_then d.inputs d.len d.rows.now d₁.inputs d₁.len d₁.rows.now d₂.inputs d₂.len d₂.rows.now x.extends y.extends) c.node.ensures.extends;
       builds = subst (λ z. BuildsOf d.inputs d.len d.rows.now (joined c.args.op (function_of d c.args.f) (function_of d c.args.g)) z c.node.result d₃.len d₃.rows.now) v
-          (whole_built d.inputs d.len d.rows.now d.heads c.requires.sound c.args.op c.args.f c.args.g c.min-v.result f.0 f.1 g.0 g.1 c.parts-f-low.ensures c.parts-g-low.ensures d₁.inputs d₁.len d₁.rows.now x.extends c.in-ok-low.low x.builds d₂.inputs d₂.len d₂.rows.now y.extends c.in-ok-high.high y.builds c.node.result d₃.len d₃.rows.now c.node.ensures.builds);
+          (whole_built d.inputs d.len d.rows.now d.heads c.requires.sound c.args.op c.args.f c.args.g c.min-v.result f.0 f.1 g.0 g.1 c.parts-f_low.ensures c.parts-g_low.ensures d₁.inputs d₁.len d₁.rows.now x.extends c.in_ok-low.low x.builds d₂.inputs d₂.len d₂.rows.now y.extends c.in_ok-high.high y.builds c.node.result d₃.len d₃.rows.now c.node.ensures.builds);
     }

@@ -12,8 +12,8 @@ returns c =
     let len = d.len in
     let b = chain c.args.variable c.args.low c.args.high in
     let r : Row = record { variable = c.args.variable; low = c.args.low; high = c.args.high; next = get_or heads b 0 } in
-    let e : c.chain-of-b.result ≡ b = c.chain-of-b.ensures.0 in
-    let few = c.chain-of-b.ensures.1 in
+    let e : c.chain_of-b.result ≡ b = c.chain_of-b.ensures.0 in
+    let few = c.chain_of-b.ensures.1 in
     let p : c.put.new.rows ≡ set rows len r = c.put.ensures ∙ ap (λ x. set rows len (record { variable = c.args.variable; low = c.args.low; high = c.args.high; next = get_or heads x 0 })) e in
     let l = c.requires.linked in
     let size : length c.put.new.rows ≡ length rows = ap length p ∙ length-set rows len r in
@@ -22,7 +22,7 @@ returns c =
       linked = record {
         within = omega (arith, c.requires.room);
         bounded = omega (arith, l.bounded);
-        chained = subst (λ x. Chained (len + 1) x (set heads c.chain-of-b.result (len + 2))) (sym p) (subst (λ x. Chained (len + 1) (set rows len r) (set heads x (len + 2))) (sym e) (chained_more len rows heads r l.chained c.requires.room refl (omega arith)));
+        chained = subst (λ x. Chained (len + 1) x (set heads c.chain_of-b.result (len + 2))) (sym p) (subst (λ x. Chained (len + 1) (set rows len r) (set heads x (len + 2))) (sym e) (chained_more len rows heads r l.chained c.requires.room refl (omega arith)));
       };
       appended = record {
         inputs_kept = refl;

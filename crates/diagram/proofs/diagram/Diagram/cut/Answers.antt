@@ -11,7 +11,7 @@ loop-k-preserved c =
     let t = c.loop-k-test.true in
     let e : c.loop-k.k ≡ suc k = omega arith in
     let now : Chained (suc k) rows heads = subst (λ x. Chained x rows heads) e c.loop-k.invariant.1 in
-    (omega arith, subst (λ x. Chained k rows (set heads x (row rows k).next)) (sym c.chain-of.ensures.0) (chained_less k rows heads now (omega (arith, c.chain-of.ensures.0, c.chain-of.ensures.1))), c.loop-k.invariant.2, c.loop-k.invariant.3)
+    (omega arith, subst (λ x. Chained k rows (set heads x (row rows k).next)) (sym c.chain_of.ensures.0) (chained_less k rows heads now (omega (arith, c.chain_of.ensures.0, c.chain_of.ensures.1))), c.loop-k.invariant.2, c.loop-k.invariant.3)
 
 pub returns : goal.returns
 returns c =

@@ -5,18 +5,18 @@ use Rattle.diagram.proofs.diagram.Diagram.find.Goals.{else-row-variable-via-then
 
 pub loop-h-init : goal.loop-h-init
 loop-h-init c =
-    let e = c.chain-of.ensures.0 in
+    let e = c.chain_of.ensures.0 in
     subst (λ x. Walk c.args.self.now.len c.args.self.now.rows.now c.args.variable c.args.low c.args.high (get_or c.args.self.now.heads x 0)) (sym e)
-    (walk_starts c.args.self.now.len c.args.self.now.rows.now c.args.variable c.args.low c.args.high c.args.self.now.heads c.requires.chained (omega (arith, c.chain-of.ensures.1)))
+    (walk_starts c.args.self.now.len c.args.self.now.rows.now c.args.variable c.args.low c.args.high c.args.self.now.heads c.requires.chained (omega (arith, c.chain_of.ensures.1)))
 
 below : (c : goal.In-loop-h) → c.loop-h.h - 2 < c.args.self.now.len
 below c = walk_below c.args.self.now.len c.args.self.now.rows.now c.args.variable c.args.low c.args.high c.loop-h.h c.loop-h.invariant c.loop-h-test.true
 
-pub overflow-sub-row : goal.overflow-sub-row
-overflow-sub-row c = walk_two c.args.self.now.len c.args.self.now.rows.now c.args.variable c.args.low c.args.high c.loop-h.h c.loop-h.invariant c.loop-h-test.true
+pub overflow_sub-row : goal.overflow_sub-row
+overflow_sub-row c = walk_two c.args.self.now.len c.args.self.now.rows.now c.args.variable c.args.low c.args.high c.loop-h.h c.loop-h.invariant c.loop-h-test.true
 
-pub offset-bounds-self-h : goal.offset-bounds-self-h
-offset-bounds-self-h c = let b = below c in omega (arith, c.requires.within, c.requires.bounded)
+pub offset_bounds-self-h : goal.offset_bounds-self-h
+offset_bounds-self-h c = let b = below c in omega (arith, c.requires.within, c.requires.bounded)
 
 pub bounds-self-h : goal.bounds-self-h
 bounds-self-h c = let b = below c in omega (arith, c.requires.within)

@@ -7,7 +7,7 @@ use Rattle.diagram.proofs.diagram.Diagram.join_whole.Goals as goal
 pub returns-in-Err : goal.returns-in-Err
 returns-in-Err c =
     let d = c.args.self.now in
-    let d₁ = c.join-down.new.self in
+    let d₁ = c.join_down.new.self in
     let d₂ = c.cut.new.self in
     let y = c.in-Err.ensures in
     let l = y.extends.longer in

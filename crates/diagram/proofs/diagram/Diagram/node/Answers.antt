@@ -15,11 +15,11 @@ returns-in-Some c =
 pub returns-then-self : goal.returns-then-self
 returns-then-self c =
     let d = c.args.self.now in
-    record { sound = c.requires.sound; extends = extends_none d.inputs d.len d.rows.now; refused = refl; builds = node_full d.inputs d.len d.rows.now d.heads c.requires.sound c.args.v c.args.low c.args.high c.requires.later c.if-idle.false c.in-default.ensures c.if-self.true }
+    record { sound = c.requires.sound; extends = extends_none d.inputs d.len d.rows.now; refused = refl; builds = node_full d.inputs d.len d.rows.now d.heads c.requires.sound c.args.v c.args.low c.args.high c.requires.later c.if-idle.false c.in_default.ensures c.if-self.true }
 
 pub returns : goal.returns
 returns c =
     let d = c.args.self.now in
     let d' = c.append.new.self in
-    let (s, e, b) = node_appended d.inputs d.len d.rows.now d.heads c.requires.sound c.args.v c.args.low c.args.high c.requires.later c.if-idle.false c.in-default.ensures c.if-self.false d'.inputs d'.len d'.rows.now d'.heads c.append.ensures.appended c.append.ensures.linked in
+    let (s, e, b) = node_appended d.inputs d.len d.rows.now d.heads c.requires.sound c.args.v c.args.low c.args.high c.requires.later c.if-idle.false c.in_default.ensures c.if-self.false d'.inputs d'.len d'.rows.now d'.heads c.append.ensures.appended c.append.ensures.linked in
     record { sound = s; extends = e; refused = tt; builds = b }

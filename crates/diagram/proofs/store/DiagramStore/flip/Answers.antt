@@ -10,4 +10,4 @@ returns-then-self-f c =
 pub returns : goal.returns
 returns c =
     let d = c.args.self.now in
-    record { sound = c.join-whole.ensures.sound; flips = answers_flip d.inputs d.len d.rows.now d.heads c.requires c.args.f c.join-whole.result _ c.if-self-f.false c.join-whole.ensures.yields }
+    record { sound = c.join_whole.ensures.sound; flips = answers_flip d.inputs d.len d.rows.now d.heads c.requires c.args.f c.join_whole.result _ c.if-self-f.false c.join_whole.ensures.yields }

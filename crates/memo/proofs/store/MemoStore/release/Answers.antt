@@ -7,7 +7,7 @@ returns g c =
     let S = g.S.Store in
     let v = c.args.self.now in
     let d = c.forget.new.self in
-    let y = c.in-ok-release.ensures.releases in
+    let y = c.in_ok-release.ensures.releases in
     let same = c.forget.ensures.below in
     let left = ap S.meaning same ∙ y.2 in
     record {

@@ -18,20 +18,20 @@ returns-in-Some g c =
       memo = recall_memoized S.keeping m call v.below v.entries c.requires.1 h e r is;
     }
 
-pub returns-in-err-h : goal.returns-in-err-h
-returns-in-err-h g c =
+pub returns-in_err-h : goal.returns-in_err-h
+returns-in_err-h g c =
     let S = g.S.Store in
     let v = c.args.self.now in
     let m = S.meaning v.below in
     let call = taking c.args.v in
     let b = c.variable.new.self in
-    let fault = c.in-err-h.field-0.0 in
-    let new = subst (λ x. Forgotten v.entries x) c.variable-call.ensures c.in-default.ensures in
-    let y = c.in-err-h.ensures.takes in
+    let fault = c.in_err-h.field-0.0 in
+    let new = subst (λ x. Forgotten v.entries x) c.variable-call.ensures c.in_default.ensures in
+    let y = c.in_err-h.ensures.takes in
     record {
       sound = (c.variable.ensures.sound, sound_after S.keeping m (S.meaning b) v.entries call (Err fault) y c.requires.1);
-      takes = asks_exit S.keeping m (S.meaning b) call c.from-residual.result fault c.from-residual.ensures.1 y;
-      memo = refused_memoized S.keeping m call v.below v.entries c.requires.1 new (S.meaning b) b c.from-residual.result fault c.from-residual.ensures.1;
+      takes = asks_exit S.keeping m (S.meaning b) call c.from_residual.result fault c.from_residual.ensures.1 y;
+      memo = refused_memoized S.keeping m call v.below v.entries c.requires.1 new (S.meaning b) b c.from_residual.result fault c.from_residual.ensures.1;
     }
 
 pub returns : goal.returns
@@ -42,10 +42,10 @@ returns g c =
     let call = taking c.args.v in
     let b = c.variable.new.self in
     let d = c.remember.new.self in
-    let h = c.in-ok-h.h in
+    let h = c.in_ok-h.h in
     let made = c.variable-call.ensures in
-    let new = subst (λ x. Forgotten v.entries x) made c.in-default.ensures in
+    let new = subst (λ x. Forgotten v.entries x) made c.in_default.ensures in
     let kept = subst (λ x. d.entries ≡ set v.entries (place_of x) (Some (record { call = x; answer = h; length = length (S.meaning b).held }))) made c.remember.ensures.entries in
-    let y = c.in-ok-h.ensures.takes in
+    let y = c.in_ok-h.ensures.takes in
     let (s, a, w) = granted S.sound S.meaning S.keeping call v.below b d.below v.entries d.entries h c.requires.1 new c.variable.ensures.sound y c.remember.ensures.below kept in
     record { sound = s; takes = a; memo = w }

@@ -7,41 +7,41 @@ use Rattle.texts.proofs.Rewritten.{accepted_writes}
 use Rattle.texts.proofs.Telling.{told, read_whole, long_netlist, refused_netlist, long_specification}
 use Rattle.texts.proofs.read.Reader.read.Goals as goal
 
-pub returns-in-err-check-length : goal.returns-in-err-check-length
-returns-in-err-check-length c =
-    let p = err_from_is_err_and c.from-residual.result c.from-residual.ensures.1 in
-    let why = long_netlist c.args.netlist.now c.args.specification.now _ c.in-err-check-length.ensures.0 c.in-err-check-length.ensures.1 in
+pub returns-in_err-check_length : goal.returns-in_err-check_length
+returns-in_err-check_length c =
+    let p = err_from_is_err_and c.from_residual.result c.from_residual.ensures.1 in
+    let why = long_netlist c.args.netlist.now c.args.specification.now _ c.in_err-check_length.ensures.0 c.in_err-check_length.ensures.1 in
     rw (p.1, p.2) (record { exact = (why, refl); writing = tt; told = told c.args.netlist.now c.args.specification.now _ why })
 
-pub returns-in-err-read-netlist : goal.returns-in-err-read-netlist
-returns-in-err-read-netlist c =
-    let p = err_from_is_err_and c.from-residual-in-err-read-netlist.result c.from-residual-in-err-read-netlist.ensures.1 in
-    let why = refused_netlist c.args.netlist.now c.args.specification.now _ c.in-ok-check-length.ensures c.in-err-read-netlist.ensures in
+pub returns-in_err-read_netlist : goal.returns-in_err-read_netlist
+returns-in_err-read_netlist c =
+    let p = err_from_is_err_and c.from_residual-in_err-read_netlist.result c.from_residual-in_err-read_netlist.ensures.1 in
+    let why = refused_netlist c.args.netlist.now c.args.specification.now _ c.in_ok-check_length.ensures c.in_err-read_netlist.ensures in
     rw (p.1, p.2) (record { exact = (why, refl); writing = tt; told = told c.args.netlist.now c.args.specification.now _ why })
 
-pub returns-in-err-check-length-2 : goal.returns-in-err-check-length-2
-returns-in-err-check-length-2 c =
-    let p = err_from_is_err_and c.from-residual-in-err-check-length-2.result c.from-residual-in-err-check-length-2.ensures.1 in
-    let why = long_specification c.args.netlist.now c.args.specification.now _ _ c.in-ok-check-length.ensures c.in-ok-read-netlist.ensures c.in-err-check-length-2.ensures.0 c.in-err-check-length-2.ensures.1 in
+pub returns-in_err-check_length-2 : goal.returns-in_err-check_length-2
+returns-in_err-check_length-2 c =
+    let p = err_from_is_err_and c.from_residual-in_err-check_length-2.result c.from_residual-in_err-check_length-2.ensures.1 in
+    let why = long_specification c.args.netlist.now c.args.specification.now _ _ c.in_ok-check_length.ensures c.in_ok-read_netlist.ensures c.in_err-check_length-2.ensures.0 c.in_err-check_length-2.ensures.1 in
     rw (p.1, p.2) (record { exact = (why, refl); writing = tt; told = told c.args.netlist.now c.args.specification.now _ why })
 
-pub returns-in-err-read-specification : goal.returns-in-err-read-specification
-returns-in-err-read-specification c =
-    let p = err_from_is_err_and c.from-residual-in-err-read-specification.result c.from-residual-in-err-read-specification.ensures.1 in
-    let why = specification_refused _ _ c.in-ok-check-length.ensures c.in-ok-read-netlist.ensures c.in-ok-check-length-2.ensures c.in-err-read-specification.ensures in
+pub returns-in_err-read_specification : goal.returns-in_err-read_specification
+returns-in_err-read_specification c =
+    let p = err_from_is_err_and c.from_residual-in_err-read_specification.result c.from_residual-in_err-read_specification.ensures.1 in
+    let why = specification_refused _ _ c.in_ok-check_length.ensures c.in_ok-read_netlist.ensures c.in_ok-check_length-2.ensures c.in_err-read_specification.ensures in
     rw (p.1, p.2) (record { exact = (why, refl); writing = tt; told = told c.args.netlist.now c.args.specification.now _ why })
 
 pub unreachable-requires : goal.unreachable-requires
-unreachable-requires c = read_whole c.args.netlist.now c.args.specification.now _ _ _ c.in-ok-read-netlist.ensures c.in-ok-read-specification.ensures c.in-Err.ensures.0
+unreachable-requires c = read_whole c.args.netlist.now c.args.specification.now _ _ _ c.in_ok-read_netlist.ensures c.in_ok-read_specification.ensures c.in-Err.ensures.0
 
 pub returns : goal.returns
 returns c =
     let done = c.in-Ok.ensures in
     let read : Accepted c.args.netlist.now c.args.specification.now (design_parts c.complete.new.design) = record {
-      short_netlist = c.in-ok-check-length.ensures;
-      circuit = draft_parts c.read-netlist.new.draft;
-      netlist_read = c.in-ok-read-netlist.ensures;
-      short_specification = c.in-ok-check-length-2.ensures;
-      specification_read = subst (SpecificationRead c.args.specification.now (draft_parts c.read-netlist.new.draft)) (sym done.1.0) c.in-ok-read-specification.ensures;
+      short_netlist = c.in_ok-check_length.ensures;
+      circuit = draft_parts c.read_netlist.new.draft;
+      netlist_read = c.in_ok-read_netlist.ensures;
+      short_specification = c.in_ok-check_length-2.ensures;
+      specification_read = subst (SpecificationRead c.args.specification.now (draft_parts c.read_netlist.new.draft)) (sym done.1.0) c.in_ok-read_specification.ensures;
     } in
     record { exact = read; writing = accepted_writes c.args.netlist.now c.args.specification.now _ read; told = tt }

@@ -8,12 +8,12 @@ use Rattle.texts.proofs.shape.netlist.gate_shape.Goals as goal
 
 pub returns : goal.returns
 returns c =
-    let name = c.in-ok-name.ensures.1 in
-    let kind = c.in-ok-kind.ensures in
-    let pins = c.if-not-pins-shaped.ensures in
-    let first = first_of c.first-field.result.1 c.in-default-Some.rest _ _ c.in-default-Some.is-1 c.first-field.ensures.all in
-    let second = first_of c.first-field-2.result.1 c.in-default-Some-first-field.pins _ _ c.in-default-Some-first-field.is-1 c.first-field-2.ensures.all in
-    let head : fields c.args.«record».now ≡ name_bytes c.in-ok-name.name ∷ fields c.in-default-Some.rest.now = cc in
-    let next : fields c.in-default-Some.rest.now ≡ kind_word c.in-ok-kind.kind ∷ fields c.in-default-Some-first-field.pins.now = cc in
-    let all : all_pins (fields c.in-default-Some-first-field.pins.now) ≡ true = cc in
-    gate_parts (fields c.args.«record».now) (name_bytes c.in-ok-name.name) c.in-ok-kind.kind c.in-default-Some.rest.now c.in-default-Some-first-field.pins.now c.in-ok-name.name.good head next all
+    let name = c.in_ok-name.ensures.1 in
+    let kind = c.in_ok-kind.ensures in
+    let pins = c.if-not-pins_shaped.ensures in
+    let first = first_of c.first_field.result.1 c.in_default-Some.rest _ _ c.in_default-Some.is-1 c.first_field.ensures.all in
+    let second = first_of c.first_field-2.result.1 c.in_default-Some-first_field.pins _ _ c.in_default-Some-first_field.is-1 c.first_field-2.ensures.all in
+    let head : fields c.args.«record».now ≡ name_bytes c.in_ok-name.name ∷ fields c.in_default-Some.rest.now = cc in
+    let next : fields c.in_default-Some.rest.now ≡ kind_word c.in_ok-kind.kind ∷ fields c.in_default-Some-first_field.pins.now = cc in
+    let all : all_pins (fields c.in_default-Some-first_field.pins.now) ≡ true = cc in
+    gate_parts (fields c.args.«record».now) (name_bytes c.in_ok-name.name) c.in_ok-kind.kind c.in_default-Some.rest.now c.in_default-Some-first_field.pins.now c.in_ok-name.name.good head next all
