@@ -16,6 +16,7 @@ TOKEN = re.compile(r"[^\s(){}\[\];,.|\"⌜⌝:]+")
 HEAD = re.compile(r"^\s*(?:pub |abbrev |unfoldable )*(record |data )?\|? ?([^\s:(){}|]+)((?: [({][^=\n]*[)}])*)\s*:(?=\s)(.*)", re.M)
 FIELD = re.compile(r"^  +(?:pub )?([^\s:(){}|]+) :(?=\s)", re.M)
 IMPORTED = re.compile(r"\s*(?:ghost )?use Rattle\.(?:std|core|std_alloc)\.[^{]*\{(.*)\}")
+GHOST = re.compile(r"\s*(ghost|requires|ensures)\b")
 # names of arguments of modules and lemmas
 ARGUMENTS = ["fixed-part", "free-x", "free-y", "free-f", "free-g", "held-f", "held-g", "held-y", "high-in", "high-made", "high-stands",
              "i-before", "i-last", "in-new", "j-before", "j-last", "joins-and", "joins-or", "joins-xor", "low-in", "low-made"]
@@ -81,6 +82,7 @@ def own_names(root):
 
 
 def respelled(text, names, fields, comment):
+    """The text with its names respelled: all of it in a file of definitions or lemmas, and the ghost lines of a source."""
     kept = library(text)
 
     def change(m):
@@ -91,7 +93,7 @@ def respelled(text, names, fields, comment):
 
     lines = []
     for line in text.splitlines(keepends=True):
-        if IMPORTED.match(line):
+        if IMPORTED.match(line) or comment == "//" and not GHOST.match(line):
             lines.append(line)
             continue
         code, mark, rest = line.partition(comment)

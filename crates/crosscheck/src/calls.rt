@@ -11,8 +11,8 @@ fn run_call<S: Store>(
     second: usize,
     third: usize,
 ) -> Result<usize, StoreFault>
-    requires { sound store.old }
-    ensures { sound store.new }
+    requires { S.sound store.old }
+    ensures { S.sound store.new }
 {
     match name {
         "start" => {

@@ -18,8 +18,8 @@ fn run_call<S: Store>(
     second: usize,
     third: usize,
 ) -> Result<usize, StoreFault>
-    requires { sound store.old }
-    ensures { sound store.new }
+    requires { S.sound store.old }
+    ensures { S.sound store.new }
 {
     match name {
         "start" => {
@@ -52,7 +52,7 @@ fn yields(name: &str) -> bool {
 
 // A number that tells a held function's truth table, point by point.
 fn digest<S: Store>(store: &S, h: usize, inputs: usize) -> u64
-    requires { sound store.now }
+    requires { S.sound store.now }
 {
     let mut digest = 7u64;
     for e in [false, true] {
@@ -84,8 +84,8 @@ pub(crate) fn run_table<S: Store>(
     store: &mut S,
     table: &str,
 ) -> anyhow::Result<String>
-    requires { sound store.old }
-    ensures { sound store.new }
+    requires { S.sound store.old }
+    ensures { S.sound store.new }
 {
     let mut told = String::new(heap);
     let mut answers = Vec::new(heap);

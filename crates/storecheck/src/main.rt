@@ -28,8 +28,8 @@ fn print_words(rt: &HostRuntime, places: usize) -> anyhow::Result<()> {
     };
     let mut memo = Memo::new(below);
     let same = calls::run_table(heap, &mut memo, table.as_str())? == told;
-    let Reached = memo.below().calls;
-    println!(rt; "memo,{same},{Reached}")?;
+    let reached = memo.below().calls;
+    println!(rt; "memo,{same},{reached}")?;
     Ok(())
 }
 
