@@ -4,11 +4,11 @@
 .PHONY: example test cases
 
 example:
-	rt check rectify
-	cd examples/half_adder && ../../target/bin/rectify
+	cd crates/rectify && rt check && rt run > /dev/null
+	cd examples/half_adder && ../../crates/rectify/out/rectify
 
 test:
-	rt ci
+	bash .ci/run
 
 cases:
 	python3 tools/cases.py
