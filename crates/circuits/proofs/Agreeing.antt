@@ -10,7 +10,7 @@ use Rattle.circuits.specs.declared.row.SpecRow.{SpecRow}
 use Rattle.circuits.specs.Kinds.{differ}
 use Rattle.circuits.specs.Circuits.{Net, bit, assignments, carried}
 use Rattle.circuits.specs.Legality.{agrees, consistent_from, rows_legal}
-use Rattle.circuits.specs.Specification.{literals_of, matches, covers, binds, bound, obeys, output_bit, each_below, meets, overlap, meet, contradicts, Obeyed}
+use Rattle.circuits.specs.Specification.{literals_of, matches, covers, binds, bound, obeys, output_bit, meets, overlap, meet, contradicts, Obeyed}
 use Rattle.circuits.proofs.Binding.{each_below_at, each_below_from}
 use Rattle.circuits.proofs.Numbering.{some_same}
 use Rattle.circuits.proofs.Rules.{Rules}

@@ -1,17 +1,17 @@
 -- The numbers of lines and their places, each from the other.
-use Rattle.std.proofs.Common.{◌≡◌, ℕ, zero, suc, ◌+◌, ◌-◌, ◌*◌, ◌<◌, ◌≤◌, Bool, true, false, cond, ltb, List, [], ◌∷◌, ◌++◌, length, get_or, take, drop, is_some, Some, None, Option, sym, refl, ap, ◌∙◌, subst, ⊎_elim, zero-add, add-one, arith}
+use Rattle.std.proofs.Common.{◌≡◌, ℕ, zero, suc, ◌+◌, ◌-◌, ◌*◌, ◌<◌, ◌≤◌, Bool, true, false, ltb, List, [], ◌∷◌, ◌++◌, length, get_or, take, drop, is_some, Some, None, Option, sym, refl, ap, ◌∙◌, ⊎_elim, zero-add, add-one, arith}
 use Rattle.std.specs.Option.{option_map}
 use Rattle.std.specs.List.{slice_get}
 use Rattle.std.proofs.lemmas.List.{drop_more, take_more, drop_all}
 use Rattle.std.proofs.lemmas.Option.{slice_get-get_or, slice_get_past}
-use Rattle.std.proofs.lemmas.Bool.{ltb-true, ltb-false, lt-ltb, le-ltb, cases_lt, false≢true}
+use Rattle.std.proofs.lemmas.Bool.{ltb-true, lt-ltb, le-ltb, cases_lt, false≢true}
 use Rattle.std.proofs.lemmas.Bool.Decides.{nat_tests}
 use Rattle.circuits.specs.declared.gate.Gate.{Gate}
 use Rattle.circuits.specs.declared.pin.Pin.{Pin}
 use Rattle.circuits.specs.declared.place.Place.{Place}
 use Rattle.circuits.specs.declared.place.Place.TheVariants.{Stem, Pin as GatePin}
 use Rattle.circuits.specs.Circuits.{Net, pins_of, nothing, assignments, carried}
-use Rattle.circuits.specs.Lines.{then, stem_count, pin_count, line_count, pin_at, line_of, pin_place, place_of, line_bit}
+use Rattle.circuits.specs.Lines.{stem_count, pin_count, line_count, pin_at, line_of, pin_place, place_of, line_bit}
 use Rattle.circuits.proofs.Working.{pins_few, stems_length}
 
 pub some_same : {X : Type 0} (x y : X) → Some x ≡ Some y → x ≡ y

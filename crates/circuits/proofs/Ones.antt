@@ -1,7 +1,7 @@
 -- Every, some and an odd number of bits, by how many of them are 1.
-use Rattle.std.proofs.Common.{◌≡◌, ℕ, zero, suc, ◌+◌, ◌%◌, ◌<◌, ◌≤◌, Bool, true, false, cond, not, ◌&&◌, ◌||◌, eqb, ltb, List, [], ◌∷◌, length, sym, refl, ap, ◌∙◌, zero-add, arith}
+use Rattle.std.proofs.Common.{◌≡◌, ◌%◌, ◌≤◌, Bool, true, false, eqb, ltb, List, [], ◌∷◌, length, refl, arith}
 use Rattle.std.proofs.lemmas.Bool.Decides.{nat_tests}
-use Rattle.circuits.specs.Kinds.{differ, every, some, odd, only, ones}
+use Rattle.circuits.specs.Kinds.{every, some, odd, only, ones}
 
 pub ones_le : (bs : List Bool) → ones bs ≤ length bs
 unfolding ones

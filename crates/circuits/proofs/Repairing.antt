@@ -1,18 +1,17 @@
 -- No output misses its rows just where what each line carries repairs it.
-use Rattle.std.proofs.Common.{◌≡◌, ℕ, zero, suc, ◌+◌, ◌-◌, ◌<◌, ◌≤◌, Bool, true, false, cond, ◌&&◌, eqb, ltb, ◌↔◌, List, [], ◌∷◌, length, Some, None, Option, unwrap_or, sym, refl, ap, ◌∙◌, ⊎_elim, arith}
+use Rattle.std.proofs.Common.{◌≡◌, ℕ, zero, suc, ◌+◌, ◌-◌, true, false, cond, eqb, ltb, ◌↔◌, List, [], ◌∷◌, length, Some, unwrap_or, sym, refl, ap, ◌∙◌, ⊎_elim, arith}
 use Rattle.std.specs.Option.{option_map}
 use Rattle.std.specs.List.{slice_get}
 use Rattle.std.proofs.lemmas.Option.{slice_get-get_or}
 use Rattle.std.proofs.lemmas.Bool.{and_parts, eqb-true, lt-ltb, cond-true, cases_Bool, false≢true}
 use Rattle.circuits.specs.declared.gate.Output.{Output}
-use Rattle.circuits.specs.declared.pin.Pin.{Pin}
 use Rattle.circuits.specs.declared.place.Place.{Place}
 use Rattle.circuits.specs.declared.place.Place.TheVariants.{Stem, Pin as GatePin}
 use Rattle.circuits.specs.declared.row.SpecRow.{SpecRow}
-use Rattle.circuits.specs.Circuits.{Net, same_place, nothing, through, assignments, carried, with_bit}
+use Rattle.circuits.specs.Circuits.{Net, nothing, through, assignments, carried, with_bit}
 use Rattle.circuits.specs.Legality.{gates_legal, legal}
 use Rattle.circuits.specs.Lines.{stem_count, pin_at, pin_place, place_of}
-use Rattle.circuits.specs.Specification.{bound, obeys, output_bit, meets, misses, misses_from, carried_by, Repairs, Repaired}
+use Rattle.circuits.specs.Specification.{bound, obeys, output_bit, meets, misses, misses_from, carried_by, Repaired}
 use Rattle.circuits.proofs.Binding.{each_below_at, each_below_from}
 use Rattle.circuits.proofs.Numbering.{stem_stands}
 use Rattle.circuits.proofs.Putting.{put_carried}

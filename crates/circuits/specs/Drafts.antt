@@ -1,5 +1,5 @@
 -- A design that is being read: what speaks against a further part, and what it becomes with it.
-use Rattle.std.specs.Prelude.{◌≡◌, ℕ, ◌+◌, Bool, true, false, cond, not, ◌&&◌, ◌||◌, List, [], ◌∷◌, ◌++◌, map, length, Some, None, vec_items, Option, Result, MatchResult, ◌==◌, nat_le}
+use Rattle.std.specs.Prelude.{◌≡◌, Bool, false, cond, not, ◌||◌, List, [], ◌∷◌, ◌++◌, map, length, Some, None, vec_items, Option, Result, MatchResult, ◌==◌, nat_le}
 use Rattle.circuits.specs.declared.design.Design.{Design}
 use Rattle.circuits.specs.declared.draft.Draft.{Draft}
 use Rattle.circuits.specs.declared.gate.Gate.{Gate}

@@ -1,9 +1,8 @@
 -- The rules that each design keeps.
-use Rattle.std.specs.Prelude.{ℕ, zero, suc, ◌+◌, Bool, true, false, cond, not, ◌&&◌, ◌||◌, List, [], ◌∷◌, ◌++◌, map, length, is_some, Some, None, Option, ◌==◌, nat_le, nat_lt}
+use Rattle.std.specs.Prelude.{ℕ, suc, ◌+◌, Bool, true, cond, not, ◌&&◌, List, [], ◌∷◌, ◌++◌, map, length, is_some, Some, None, Option, ◌==◌, nat_le, nat_lt}
 use Rattle.std.specs.Str.{bytes_eq}
 use Rattle.circuits.specs.declared.gate.Gate.{Gate}
 use Rattle.circuits.specs.declared.gate.Output.{Output}
-use Rattle.circuits.specs.declared.name.Name.{Name}
 use Rattle.circuits.specs.declared.pin.Pin.{Pin}
 use Rattle.circuits.specs.declared.row.SpecRow.{SpecRow}
 use Rattle.circuits.specs.Kinds.{fits}

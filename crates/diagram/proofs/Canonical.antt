@@ -1,7 +1,7 @@
 -- Canonicity: reduced rows stand for different functions, none of which is constant, and what is kept for a held function is held.
-use Rattle.std.proofs.Common.{◌≡◌, ℕ, zero, suc, ◌+◌, ◌-◌, ◌<◌, ◌≤◌, Bool, true, false, cond, List, [], ◌∷◌, sym, refl, ap, ◌∙◌, subst, inl, inr, arith, pow_pos}
+use Rattle.std.proofs.Common.{◌≡◌, ℕ, zero, suc, ◌+◌, ◌<◌, ◌≤◌, Bool, true, false, cond, List, [], ◌∷◌, sym, refl, ap, ◌∙◌, subst, inl, inr, arith, pow_pos}
 use Rattle.std.proofs.lemmas.Bool.{cases_Bool, cases_lt, cases_order, true≢false, false≢true}
-use Rattle.stores.specs.Functions.{Function, never, always, Same, constant}
+use Rattle.stores.specs.Functions.{Function, never, always, Same}
 use Rattle.stores.specs.Meaning.{at, has, different}
 use Rattle.stores.proofs.Sames.{Same_sym, Same_trans, at_has, has_at, different_push, constants_differ}
 use Rattle.diagram.specs.declared.row.Row.{Row}

@@ -9,7 +9,6 @@ use Rattle.stores.specs.Meaning.{Gained, Stands, at, has, kept}
 use Rattle.stores.proofs.Sames.{Same_sym, Same_trans, has_append, both_same}
 use Rattle.stores.proofs.Laws.{gained_then, gained_as, gained_same, overfull_then, overfull_as, overfull_same, stands_grown}
 use Rattle.diagram.specs.declared.row.Row.{Row}
-use Rattle.diagram.specs.Chains.{row}
 use Rattle.diagram.specs.Rows.{node, Free, functions, top}
 use Rattle.diagram.specs.Subfunctions.{subfunctions}
 use Rattle.diagram.specs.Diagrams.{meaning_of, SoundOf, LaterOf, ExtendsOf, BuildsOf, Settled}

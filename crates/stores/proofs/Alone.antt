@@ -1,9 +1,9 @@
 -- A store that keeps each function alone, and holds the words of functions.
-use Rattle.std.proofs.Common.{◌≡◌, ℕ, ◌+◌, ◌-◌, ◌<◌, true, false, List, [], ◌∷◌, ◌++◌, length, sym, refl, ◌∙◌, inl, inr}
+use Rattle.std.proofs.Common.{◌≡◌, ℕ, ◌<◌, true, false, List, [], ◌∷◌, ◌++◌, length, sym, refl, ◌∙◌, inl, inr}
 use mathlib.Core.Bool.{or-false}
 use Rattle.std.proofs.lemmas.Bool.{cases_Bool, both_ways, or_left, or_right}
 use Rattle.stores.specs.Functions.{Function, same, constant}
-use Rattle.stores.specs.Meaning.{Meaning, Keeps, Good, Gained, has, kept, at}
+use Rattle.stores.specs.Meaning.{Meaning, Keeps, Good, Gained, has}
 use Rattle.stores.specs.Words.{alone}
 use Rattle.stores.proofs.Sames.{same_tells, same_refl, same_sym, same_left, has_same, has_append, constant_same}
 use Rattle.stores.proofs.Laws.{held_already, gained_new}

@@ -1,8 +1,8 @@
 -- The list of a word store.
-use Rattle.std.proofs.Common.{◌≡◌, ℕ, zero, suc, ◌+◌, ◌-◌, ◌^◌, ◌<◌, ◌≤◌, false, not, List, [], ◌∷◌, ◌++◌, map, length, get_or, take, set, sym, refl, ap, ◌∙◌, inl, inr, arith, length-take, pow_pos}
+use Rattle.std.proofs.Common.{◌≡◌, ℕ, zero, suc, ◌+◌, ◌-◌, ◌^◌, ◌<◌, ◌≤◌, false, List, [], ◌∷◌, ◌++◌, map, length, get_or, take, set, sym, refl, ap, ◌∙◌, inl, inr, arith, length-take, pow_pos}
 use Rattle.std.proofs.lemmas.Bool.{cases_Bool}
 use Rattle.std.proofs.lemmas.List.{length-map, get_or-map, get_or-take, take_more_set, map_push, take-map, take-take}
-use Rattle.stores.specs.Functions.{never, always, Same, constant, points}
+use Rattle.stores.specs.Functions.{never, always, Same, points}
 use Rattle.stores.specs.Meaning.{Good, has, at}
 use Rattle.stores.specs.Words.{of_word, listed, meaning_of, SoundOf}
 use Rattle.stores.proofs.Sames.{at_has}

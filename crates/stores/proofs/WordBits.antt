@@ -1,13 +1,13 @@
 -- The bits of words.
-use Rattle.std.proofs.Common.{◌≡◌, ℕ, zero, suc, ◌+◌, ◌-◌, ◌*◌, ◌/◌, ◌%◌, ◌^◌, ◌<◌, ◌≤◌, Bool, true, false, cond, not, ◌&&◌, ◌||◌, eqb, ◌⊎◌, sym, refl, ap, ◌∙◌, subst, inl, inr, mod-lt, mod-eq_of_lt, zero-add, add-one, one-add, arith, lit≤, pow_pos, pow-add, shl_exact, shr-shr, shr_lt}
+use Rattle.std.proofs.Common.{◌≡◌, ℕ, zero, suc, ◌+◌, ◌-◌, ◌*◌, ◌/◌, ◌%◌, ◌^◌, ◌<◌, ◌≤◌, Bool, true, false, cond, not, ◌&&◌, ◌||◌, eqb, sym, refl, ap, ◌∙◌, inl, inr, mod-lt, mod-eq_of_lt, zero-add, add-one, one-add, arith, lit≤, pow_pos, pow-add, shl_exact, shr-shr, shr_lt}
 use native.Mathlib.Nat.{zero-div, add-mod_left}
 use Rattle.std.proofs.lemmas.Nat.{one_shl}
 use lib.Bits.{or_shifted, bit_and, bit_or, bit_xor, and_shr, or_shr, xor_shr, and_mod, or_mod, xor_mod}
 use lib.Pow.{ones_split, ones_lt, high, low, field, mod-mod-pow}
 use lib.Arith.{digits_lt}
-use Rattle.std.proofs.lemmas.Bool.Decides.{nat_tests, Decides-below_and}
+use Rattle.std.proofs.lemmas.Bool.Decides.{nat_tests}
 use Rattle.std.proofs.lemmas.Bool.{cases_lt}
-use Rattle.stores.specs.Functions.{Function, bit, points, Same, differ, agrees, never, always, complement, joined, fixed, variable, point}
+use Rattle.stores.specs.Functions.{Function, bit, points, Same, differ, agrees, never, always, complement, fixed, point}
 use Rattle.stores.specs.Words.{of_word}
 use Rattle.stores.proofs.Sames.{agrees_tells}
 

@@ -1,6 +1,6 @@
 -- The majority of three functions, as joins make it.
-use Rattle.std.specs.Prelude.{ℕ, ◌<◌, List, [], ◌∷◌, ◌++◌, length}
-use Rattle.stores.specs.declared.operation.Operation.TheVariants.{And, Or, Xor}
+use Rattle.std.specs.Prelude.{ℕ, ◌<◌, List, [], ◌∷◌, length}
+use Rattle.stores.specs.declared.operation.Operation.TheVariants.{And, Or}
 use Rattle.stores.specs.Meaning.{Meaning, at}
 use Rattle.stores.specs.Functions.{Function, joined}
 

@@ -1,8 +1,8 @@
 -- The word store: each function that is not constant is one word.
-use Rattle.std.specs.Prelude.{◌≡◌, ℕ, ◌+◌, ◌^◌, ◌<◌, ◌≤◌, Bool, true, false, cond, List, [], ◌∷◌, ◌++◌, map, length, take, Some, None, Option, slice_index}
+use Rattle.std.specs.Prelude.{◌≡◌, ℕ, ◌^◌, ◌<◌, ◌≤◌, true, false, cond, List, [], ◌∷◌, map, length, take, Some, None, Option, slice_index}
 use Rattle.stores.specs.declared.words.Words.{Words}
-use Rattle.stores.specs.Functions.{Function, never, always, bit, points, constant, Same}
-use Rattle.stores.specs.Meaning.{Meaning, Rule, has, different, at, Stands}
+use Rattle.stores.specs.Functions.{Function, never, always, bit, points, constant}
+use Rattle.stores.specs.Meaning.{Meaning, Rule, has, different, Stands}
 
 -- bit p of a word is its function at the point p
 abbrev pub of_word : ℕ → Function

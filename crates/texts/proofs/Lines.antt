@@ -3,7 +3,7 @@ use Rattle.std.proofs.Common.{◌≡◌, ℕ, zero, suc, ◌+◌, ◌<◌, eqb, 
 use Rattle.std.proofs.lemmas.Bool.{cases_Bool, eqb-true}
 use Rattle.texts.specs.Fields.{marked_word, has_mark, past_mark}
 use Rattle.texts.specs.Records.{before, feed, comma, record_at, fields, in_first}
-use Rattle.texts.specs.Writing.{after_comma, parted, line, lines}
+use Rattle.texts.specs.Writing.{after_comma, parted, lines}
 
 -- A record is its fields, parted by commas.
 fields_some : (bs : List ℕ) → (f : List ℕ) × ((fs : List (List ℕ)) × (fields bs ≡ f ∷ fs))

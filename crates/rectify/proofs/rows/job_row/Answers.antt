@@ -1,7 +1,6 @@
 use Rattle.std.proofs.Common.{◌≡◌, string_bytes, ap, ◌∙◌}
 use Rattle.std.proofs.lemmas.Result.{IfOk-weaker}
 use Rattle.circuits.specs.Drafts.{design_parts}
-use Rattle.circuits.specs.Specification.{misses}
 use Rattle.circuits.specs.declared.counts.Counts.{Counts}
 use Rattle.rectify.specs.Rows.{job_numbers_bytes, job_row_bytes}
 use Rattle.rectify.proofs.rows.job_row.Goals as goal

@@ -1,6 +1,6 @@
-use Rattle.std.proofs.Common.{◌≡◌, ◌<◌, length, Ok, Err, arith, rules}
+use Rattle.std.proofs.Common.{length, arith, rules}
 use Rattle.stores.specs.Majority.{steps_at, majority_at, AllHeld}
-use Rattle.stores.specs.Meaning.{Meaning, Releases}
+use Rattle.stores.specs.Meaning.{Releases}
 use Rattle.stores.proofs.Laws.{yields_from_refused}
 use Rattle.stores.proofs.Orders.{laws}
 use Rattle.stores.proofs.voting.majority.Goals as goal

@@ -1,7 +1,7 @@
-use Rattle.std.proofs.Common.{◌≡◌, [], ◌∷◌, IsErrAnd, Ok, Err, Result}
-use Rattle.stores.specs.Functions.{Function, joined}
-use Rattle.stores.specs.Majority.{majority_steps, majority_of, steps_at, majority_at, AllHeld}
-use Rattle.stores.specs.Meaning.{Meaning, Rule, Keeps, Good, at, Makes, Joins}
+use Rattle.std.proofs.Common.{[], ◌∷◌, Err}
+use Rattle.stores.specs.Functions.{joined}
+use Rattle.stores.specs.Majority.{steps_at, majority_at}
+use Rattle.stores.specs.Meaning.{at}
 use Rattle.stores.specs.declared.operation.Operation.TheVariants.{And, Or}
 use Rattle.stores.proofs.Laws.{makes_exit, makes_refused}
 use Rattle.stores.proofs.Joining.{first, second, third, fourth, fifth}

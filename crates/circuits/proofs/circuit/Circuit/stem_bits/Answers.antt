@@ -1,6 +1,6 @@
-use Rattle.std.proofs.Common.{◌≡◌, ℕ, ◌+◌, ◌<◌, length, sym, refl, ap, ◌∙◌, arith}
+use Rattle.std.proofs.Common.{◌∙◌, arith}
 use Rattle.circuits.specs.Circuits.{net}
-use Rattle.circuits.proofs.Working.{InputsDone, GatesDone, inputs_more, gates_none, gates_more, gates_all, gate_after}
+use Rattle.circuits.proofs.Working.{inputs_more, gates_none, gates_more, gates_all, gate_after}
 use Rattle.circuits.proofs.circuit.Circuit.stem_bits.Goals as goal
 
 pub loop-i-preserved : goal.loop-i-preserved

@@ -1,4 +1,4 @@
-use Rattle.std.proofs.Common.{◌≡◌, ℕ, ◌-◌, length, take, Some, sym, ap, ◌∙◌, arith}
+use Rattle.std.proofs.Common.{◌≡◌, ◌-◌, length, take, Some, sym, ap, ◌∙◌, arith}
 use Rattle.circuits.specs.Circuits.{net, nothing, carried}
 use Rattle.circuits.specs.Lines.{place_of}
 use Rattle.circuits.specs.declared.place.Place.TheVariants.{Stem}

@@ -1,5 +1,5 @@
 use Rattle.std.proofs.Common.{◌≡◌, true}
-use Rattle.circuits.specs.Circuits.{net, carried, through}
+use Rattle.circuits.specs.Circuits.{carried, through}
 use Rattle.circuits.specs.Drafts.{design_parts}
 use Rattle.circuits.specs.Specification.{bound, obeys, each_below}
 use Rattle.circuits.proofs.design.Design.meets.Given as goal

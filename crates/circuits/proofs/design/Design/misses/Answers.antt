@@ -1,4 +1,4 @@
-use Rattle.std.proofs.Common.{◌≡◌, true, false, sym, ◌∙◌, add-zero, arith}
+use Rattle.std.proofs.Common.{true, false, sym, ◌∙◌, add-zero, arith}
 use Rattle.circuits.specs.Drafts.{design_parts}
 use Rattle.circuits.proofs.Binding.{missed_none, missed_more, missed_all}
 use Rattle.circuits.proofs.Repairing.{misses_repaired}

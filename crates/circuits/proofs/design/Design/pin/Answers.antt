@@ -1,4 +1,4 @@
-use Rattle.std.proofs.Common.{◌≡◌, ◌<◌, false, length, sym, ap, ◌∙◌, arith}
+use Rattle.std.proofs.Common.{◌<◌, false, length, sym, ap, arith}
 use Rattle.circuits.specs.Circuits.{net, pins_of}
 use Rattle.circuits.specs.declared.pin.Pin.{Pin}
 use Rattle.circuits.proofs.Rules.{design_rules}

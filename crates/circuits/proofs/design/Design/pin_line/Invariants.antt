@@ -1,4 +1,4 @@
-use Rattle.std.proofs.Common.{◌≡◌, ◌+◌, ◌*◌, ◌≤◌, take}
+use Rattle.std.proofs.Common.{◌≡◌, ◌+◌, take}
 use Rattle.circuits.specs.Circuits.{net}
 use Rattle.circuits.specs.Lines.{stem_count, pin_count}
 use Rattle.circuits.proofs.design.Design.pin_line.Given as goal

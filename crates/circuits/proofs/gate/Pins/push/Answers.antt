@@ -1,4 +1,4 @@
-use Rattle.std.proofs.Common.{sym, refl, arith}
+use Rattle.std.proofs.Common.{refl, arith}
 use Rattle.std.proofs.lemmas.Bool.Decides.{nat_tests}
 use Rattle.circuits.specs.Pins.{unused}
 use Rattle.circuits.proofs.Fronts.{front_parts, front_from, front_more, front_list, front_length}

@@ -1,8 +1,8 @@
 -- Each kind's bit follows from how many bits are 1.
-use Rattle.std.proofs.Common.{◌≡◌, ℕ, Bool, true, not, eqb, ltb, ◌⊎◌, List, length, sym, ap, ◌∙◌, subst, inl, inr, arith}
+use Rattle.std.proofs.Common.{◌≡◌, Bool, true, eqb, ltb, ◌⊎◌, List, length, sym, inl, inr, arith}
 use Rattle.std.proofs.lemmas.Bool.{eqb-true}
 use Rattle.std.proofs.lemmas.Bool.Decides.{nat_tests}
-use Rattle.circuits.specs.Kinds.{fits, gate_bit, ones, some, only}
+use Rattle.circuits.specs.Kinds.{fits, gate_bit, ones}
 use Rattle.circuits.specs.declared.kind.Kind.{Kind}
 use Rattle.circuits.specs.declared.kind.Kind.TheVariants.{Or, Nor, Buf, Not}
 use Rattle.circuits.proofs.Ones.{every_by_ones, some_by_ones, odd_by_ones, only_by_ones}

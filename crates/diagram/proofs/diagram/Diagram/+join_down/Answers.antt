@@ -1,4 +1,4 @@
-use Rattle.std.proofs.Common.{◌≡◌, ◌-◌, min, ap, ◌∙◌, subst, arith}
+use Rattle.std.proofs.Common.{◌≡◌, min, ap, ◌∙◌, subst, arith}
 use Rattle.stores.specs.Functions.{joined}
 use Rattle.diagram.specs.Diagrams.{top_of, function_of, BuildsOf}
 use Rattle.diagram.proofs.Building.{extends_none}

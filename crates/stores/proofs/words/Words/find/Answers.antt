@@ -1,5 +1,4 @@
-use Rattle.std.proofs.Common.{◌≡◌, sym, ◌∙◌, arith}
-use Rattle.stores.specs.Functions.{points}
+use Rattle.std.proofs.Common.{sym, ◌∙◌, arith}
 use Rattle.stores.proofs.Keeping.{stands_one, stands_word}
 use Rattle.stores.proofs.Listed.{not_listed}
 use Rattle.stores.proofs.words.Words.find.Goals as goal

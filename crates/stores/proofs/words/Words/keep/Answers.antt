@@ -1,4 +1,3 @@
-use Rattle.std.proofs.Common.{◌≡◌, sym, refl, ◌∙◌}
 use Rattle.stores.proofs.Keeping.{keep_held, keep_full, keep_sound, keep_new}
 use Rattle.stores.proofs.words.Words.keep.Goals as goal
 

@@ -1,4 +1,4 @@
-use Rattle.std.proofs.Common.{◌≡◌, ◌-◌, ◌≤◌, min, length, take, sym, refl, ◌∙◌, arith, lit≤, length-take}
+use Rattle.std.proofs.Common.{◌≡◌, ◌-◌, min, length, take, ◌∙◌, arith, lit≤, length-take}
 use Rattle.stores.proofs.Keeping.{new_sound}
 use Rattle.stores.proofs.words.Words.new.Goals as goal
 use Rattle.stores.proofs.words.Words.new.Goals.{then-words-lt4096, else-words-lt4096}

@@ -1,5 +1,5 @@
-use Rattle.std.proofs.Common.{◌≡◌, ◌+◌, ◌-◌, ◌^◌, ◌<◌, ◌≤◌, refl, ◌∙◌, arith}
-use Rattle.stores.specs.Functions.{point, points}
+use Rattle.std.proofs.Common.{◌≡◌, ◌^◌, ◌<◌, arith}
+use Rattle.stores.specs.Functions.{point}
 use Rattle.std.proofs.lemmas.Nat.{one_shl}
 use Rattle.stores.proofs.WordBits.{point_below, points_le}
 use Rattle.stores.proofs.Methods.{held, not_held, value_is}

@@ -1,4 +1,3 @@
-use Rattle.std.proofs.Common.{◌≡◌, sym, refl, ap, ◌∙◌}
 use lib.Bits.{and_lt, or_lt, xor_lt}
 use Rattle.stores.proofs.WordBits.{bit-and, bit-or, bit-xor}
 use Rattle.stores.proofs.words.bits.combined.Goals as goal

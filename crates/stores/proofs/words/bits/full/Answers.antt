@@ -1,4 +1,4 @@
-use Rattle.std.proofs.Common.{◌≡◌, ℕ, ◌+◌, ◌-◌, ◌*◌, ◌/◌, ◌%◌, ◌^◌, ◌≤◌, refl, lit≤}
+use Rattle.std.proofs.Common.{◌≡◌, ◌-◌, ◌*◌, ◌/◌, ◌%◌, ◌^◌, ◌≤◌, refl, lit≤}
 use Rattle.stores.specs.Functions.{points}
 use Rattle.stores.proofs.WordBits.{upto_five}
 use Rattle.stores.proofs.words.bits.full.Goals as goal

@@ -1,6 +1,4 @@
-use Rattle.std.proofs.Common.{◌≡◌, ◌*◌, ◌/◌, ◌%◌, ◌^◌, ◌<◌, cond, sym, refl, ap, ◌∙◌, arith, pow_pos}
-use Rattle.stores.specs.Functions.{Same, fixed}
-use Rattle.stores.specs.Words.{of_word}
+use Rattle.std.proofs.Common.{◌≡◌, ◌/◌, ◌%◌, ◌^◌, cond, ap, ◌∙◌, pow_pos}
 use Rattle.stores.proofs.WordBits.{half_is, half_below, whole_is, repeated_is, twice_fits, twice_below, word_fix}
 use Rattle.stores.proofs.words.bits.repeated.Goals as goal
 use Rattle.stores.proofs.words.bits.repeated.Goals.{then-bit, else-bit}
