@@ -4,7 +4,7 @@
 .PHONY: example test cases
 
 example:
-	cd crates/rectify && rt check && rt run > /dev/null
+	cd crates/rectify && rt run > /dev/null
 	cd examples/half_adder && ../../crates/rectify/out/rectify
 
 test:

@@ -1,5 +1,5 @@
 -- Two patterns that are compared literal by literal.
-use Rattle.std.proofs.Common.{◌≡◌, Bool, true, ◌&&◌, List, [], ◌∷◌, length, refl, arith}
+use Rattle.std.proofs.Common.{◌≡◌, Bool, true, ◌&&◌, ◌⊎◌, List, [], ◌∷◌, length, refl, inl, inr, arith}
 use Rattle.circuits.specs.declared.literal.Literal.{Literal}
 use Rattle.circuits.specs.Specification.{meet, overlap}
 
@@ -9,15 +9,20 @@ pub meet_next :
 unfolding meet
 meet_next ls ms ls' ms' l m b d e o = rw (d, e, o) refl
 
--- Nothing is left to compare once either is at its end.
-pub first_done : (ls ms : List Literal) → length ls ≡ 0 → meet ls ms ≡ true
+first_done : (ls ms : List Literal) → length ls ≡ 0 → meet ls ms ≡ true
 unfolding meet
 first_done [] [] e = refl
 first_done [] (m ∷ ms) e = refl
 first_done (l ∷ ls) ms e = let z : ⊥ = omega arith in absurd z
 
-pub second_done : (ls ms : List Literal) → length ms ≡ 0 → meet ls ms ≡ true
+second_done : (ls ms : List Literal) → length ms ≡ 0 → meet ls ms ≡ true
 unfolding meet
 second_done [] [] e = refl
 second_done (l ∷ ls) [] e = refl
 second_done ls (m ∷ ms) e = let z : ⊥ = omega arith in absurd z
+
+-- Nothing is left to compare once either has none left.
+pub meet_done :
+    {X Y : Type 0} (ls ms : List Literal) (P : X → Type 0) (Q : Y → Type 0) → ((x : X) × ((length ls ≡ 0) × P x)) ⊎ ((y : Y) × ((length ms ≡ 0) × Q y)) → meet ls ms ≡ true
+meet_done ls ms P Q (inl w) = first_done ls ms w.1.0
+meet_done ls ms P Q (inr w) = second_done ls ms w.1.0

@@ -43,3 +43,19 @@ fn refused_texts_leave_the_design(rt: HostRuntime) -> Result<(), Fail> {
     assert_eq!(rt; design.output(0, 1), Some(true));
     Ok(())
 }
+
+#[test]
+fn the_faulty_record_is_lent(rt: HostRuntime) -> Result<(), Fail> {
+    let heap = rt.alloc();
+    let mut reader = Reader::new(heap)?;
+    let mut design = Design::new(heap)?;
+    let netlist = b"in,b\nout,y,!b\n";
+    let spec = b"spec,y,0,0\nspec,y,-,1\n";
+    let Err(ReadFault::Text(fault)) = reader.read(netlist, spec, &mut design) else {
+        return Err(Fail::new("a contradicting row is accepted"));
+    };
+    assert!(rt; fault.word(netlist, spec) == b"spec,y,-,1".as_slice());
+    // a text in which no such record lies
+    assert!(rt; fault.word(netlist, b"spec").is_empty());
+    Ok(())
+}

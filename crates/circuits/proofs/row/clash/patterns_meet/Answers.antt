@@ -1,5 +1,5 @@
-use Rattle.std.proofs.Common.{sym, ◌∙◌, inl, inr}
-use Rattle.circuits.proofs.Meeting.{meet_next, first_done, second_done}
+use Rattle.std.proofs.Common.{sym, ◌∙◌}
+use Rattle.circuits.proofs.Meeting.{meet_next, meet_done}
 use Rattle.circuits.proofs.row.clash.patterns_meet.Goals as goal
 
 pub loop-a-init : goal.loop-a-init
@@ -14,4 +14,4 @@ loop-a-preserved c =
     c.loop-a.invariant ∙ meet_next _ _ _ _ _ _ _ c.in-Some.ensures.steps.0 c.in-Some.ensures.steps.1 c.if-not-overlaps.ensures
 
 pub returns : goal.returns
-returns c = sym (c.loop-a.invariant ∙ elim c.in-None.ensures.steps [ inl w ↦ first_done _ _ w.1.0 | inr w ↦ second_done _ _ w.1.0 ])
+returns c = sym (c.loop-a.invariant ∙ meet_done _ _ _ _ c.in-None.ensures.steps)
