@@ -1,5 +1,5 @@
 //! The memo: what it holds, and how it remembers.
-ghost use Rattle.std.specs.Prelude.{◌≡◌, length, set, replicate, Some, None};
+ghost use Rattle.std.specs.Prelude.{◌≡◌, slice_set, length, replicate, Some, None};
 ghost use Rattle.memo.specs.Calls.{place_of};
 ghost use Rattle.memo.specs.Memos.{SoundMemo, Recalled, Forgets};
 
@@ -55,7 +55,7 @@ impl<S: Store> Memo<S> {
     pub(crate) fn remember(&mut self, call: Call, answer: usize)
         requires { S.Store.sound self.old.below }
         ensures below { self.new.below ≡ self.old.below }
-        ensures entries { self.new.entries ≡ set self.old.entries (place_of call) (Some (record { call = call; answer = answer; length = length (S.Store.meaning self.old.below).held })) }
+        ensures entries { self.new.entries ≡ slice_set self.old.entries (place_of call) (Some (record { call = call; answer = answer; length = length (S.Store.meaning self.old.below).held })) }
     {
         let length = self.below.length();
         self.entries[call.place()] = Some(Entry {
