@@ -4,3 +4,4 @@ pub mod Meaning
 pub mod Laws
 pub mod Majority
 pub mod Words
+pub mod WordStore

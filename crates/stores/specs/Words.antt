@@ -1,6 +1,5 @@
 -- The word store: each function that is not constant is one word.
 use Rattle.std.specs.Prelude.{◌≡◌, ℕ, ◌^◌, ◌<◌, ◌≤◌, true, false, cond, List, [], ◌∷◌, map, length, take, Some, None, Option, slice_index}
-use Rattle.stores.specs.declared.words.Words.{Words}
 use Rattle.stores.specs.Functions.{Function, never, always, bit, points, constant}
 use Rattle.stores.specs.Meaning.{Meaning, Rule, has, different, Stands}
 
@@ -15,9 +14,6 @@ listed len ws = never ∷ always ∷ map of_word (take len ws)
 abbrev pub meaning_of : ℕ → ℕ → List ℕ → Meaning
 meaning_of n len ws = record { inputs = n; most = 5; places = length ws; held = listed len ws }
 
-abbrev pub words_meaning : Words → Meaning
-words_meaning w = meaning_of w.inputs w.len w.words.now
-
 -- it keeps a function alone
 abbrev pub alone : Rule
 alone n f = cond (constant n f) [] (f ∷ [])
@@ -28,9 +24,6 @@ pub record SoundOf (n len : ℕ) (ws : List ℕ) : Type 0 where
   pub few : n ≤ 5
   pub small : (k : ℕ) → k < len → slice_index ws k < 2 ^ points n
   pub apart : different n (listed len ws) ≡ true
-
-abbrev pub Sound : Words → Type 0
-Sound w = SoundOf w.inputs w.len w.words.now
 
 -- where a function is
 abbrev pub Found : Meaning → Function → Option ℕ → Type 0

@@ -10,10 +10,8 @@ use crate::store::Store;
 
 // The functions of `majority`, once a, b and c are known to be held.
 fn majority_parts<S: Store>(s: &mut S, a: usize, b: usize, c: usize) -> Result<usize, StoreFault>
-    requires sound { S.sound s.old }
     requires lawful { Lawful S.keeping (S.meaning s.old) }
     requires held { AllHeld (S.meaning s.old) a b c }
-    ensures sound { S.sound s.new }
     ensures makes { Makes S.keeping (S.meaning s.old) (steps_at (S.meaning s.old) a b c) (majority_at (S.meaning s.old) a b c) result (S.meaning s.new) }
 {
     let ab = s.join(Operation::And, a, b)?;
@@ -25,9 +23,7 @@ fn majority_parts<S: Store>(s: &mut S, a: usize, b: usize, c: usize) -> Result<u
 
 /// Yields the majority of three held functions by joins, one after the other. A refusal leaves the list as it was.
 pub fn majority<S: Store>(s: &mut S, a: usize, b: usize, c: usize) -> Result<usize, StoreFault>
-    requires { S.sound s.old }
     ensures laws { Laws S.keeping }
-    ensures sound { S.sound s.new }
     ensures yields { Yields S.keeping (S.meaning s.old) (AllHeld (S.meaning s.old) a b c) (steps_at (S.meaning s.old) a b c) (majority_at (S.meaning s.old) a b c) result (S.meaning s.new) }
 {
     let before = s.length();

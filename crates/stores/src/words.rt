@@ -2,7 +2,7 @@
 ghost use Rattle.std.specs.Prelude.{◌≡◌, ◌+◌, ◌^◌, ◌<◌, min, [], ◌∷◌, length};
 ghost use Rattle.stores.specs.Functions.{points, Same};
 ghost use Rattle.stores.specs.Meaning.{Yields, at, empty};
-ghost use Rattle.stores.specs.Words.{of_word, words_meaning, alone, Sound, Found};
+ghost use Rattle.stores.specs.Words.{of_word, alone, SoundOf, Found};
 
 mod bits;
 
@@ -18,12 +18,15 @@ pub struct Words<'a> {
     words: &'a mut [u64],
     len: usize,
     inputs: usize,
+    ghost sound: { SoundOf inputs len words.now },
 }
 
 impl<'a> Words<'a> {
+    ghost use Rattle.stores.specs.WordStore.{words_meaning};
+
     /// A store over the words that are lent, of which it uses the first 4096.
     pub fn new(words: &'a mut [u64]) -> Words<'a>
-        ensures { Sound result × (words_meaning result ≡ empty 5 (min 4096 (length words.old))) }
+        ensures { words_meaning result ≡ empty 5 (min 4096 (length words.old)) }
     {
         let count = if words.len() < 4096 {
             words.len()
@@ -39,7 +42,6 @@ impl<'a> Words<'a> {
 
     // The word of a handle.
     fn word(&self, h: usize) -> u64
-        requires sound { Sound self.now }
         requires held { h < self.now.len + 2 }
         ensures fits { result < 2 ^ points self.now.inputs }
         ensures means { Same self.now.inputs (at (words_meaning self.now).held h) (of_word result) }
@@ -53,7 +55,6 @@ impl<'a> Words<'a> {
 
     // The handle of a word's function, if it is held.
     fn find(&self, w: u64) -> Option<usize>
-        requires sound { Sound self.now }
         requires fits { w < 2 ^ points self.now.inputs }
         ensures { Found (words_meaning self.now) (of_word w) result }
     {
@@ -73,9 +74,7 @@ impl<'a> Words<'a> {
 
     // Yields a word's function.
     fn keep(&mut self, w: u64) -> Result<usize, StoreFault>
-        requires sound { Sound self.old }
         requires fits { w < 2 ^ points self.old.inputs }
-        ensures sound { Sound self.new }
         ensures makes { Yields alone (words_meaning self.old) (Unit {0}) (of_word w ∷ []) (of_word w) result (words_meaning self.new) }
     {
         if let Some(h) = self.find(w) {
@@ -91,7 +90,7 @@ impl<'a> Words<'a> {
 }
 
 impl Store for Words<'_> {
-    ghost sound = { Sound };
+    ghost use Rattle.stores.specs.WordStore.{words_meaning};
 
     ghost meaning = { words_meaning };
 

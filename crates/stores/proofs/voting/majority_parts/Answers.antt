@@ -17,7 +17,6 @@ returns-in_err-ab g c =
     let fb = at m.held c.args.b in
     let fc = at m.held c.args.c in
     record {
-      sound = c.join.ensures.sound;
       makes = makes_exit S.keeping m m' (steps_at m c.args.a c.args.b c.args.c) (majority_at m c.args.a c.args.b c.args.c) c.from_residual.result e c.from_residual.ensures.1
           (makes_refused S.keeping m m' (joined And fa fb ∷ []) _ (joined And fa fb) (majority_at m c.args.a c.args.b c.args.c) e
           (first S.keeping m c.args.a c.args.b c.args.c (c.requires.lawful.keeps m.inputs) c.requires.lawful.good c.requires.held.0 c.requires.held.1 c.requires.held.2 m' (Err e) c.in_err-ab.ensures.joins));
@@ -33,7 +32,6 @@ returns-in_err-ac g c =
     let fb = at m.held c.args.b in
     let fc = at m.held c.args.c in
     record {
-      sound = c.join-2.ensures.sound;
       makes = makes_exit S.keeping m m' (steps_at m c.args.a c.args.b c.args.c) (majority_at m c.args.a c.args.b c.args.c) c.from_residual-in_err-ac.result e c.from_residual-in_err-ac.ensures.1
           (makes_refused S.keeping m m' (joined And fa fb ∷ joined And fa fc ∷ []) _ (joined And fa fc) (majority_at m c.args.a c.args.b c.args.c) e
           (second S.keeping m c.args.a c.args.b c.args.c (c.requires.lawful.keeps m.inputs) c.requires.lawful.good c.requires.held.0 c.requires.held.1 c.requires.held.2 (S.meaning c.join.new.self) c.in_ok-ab.ab c.in_ok-ab.ensures.joins m' (Err e) c.in_err-ac.ensures.joins));
@@ -49,7 +47,6 @@ returns-in_err-bc g c =
     let fb = at m.held c.args.b in
     let fc = at m.held c.args.c in
     record {
-      sound = c.join-3.ensures.sound;
       makes = makes_exit S.keeping m m' (steps_at m c.args.a c.args.b c.args.c) (majority_at m c.args.a c.args.b c.args.c) c.from_residual-in_err-bc.result e c.from_residual-in_err-bc.ensures.1
           (makes_refused S.keeping m m' (joined And fa fb ∷ joined And fa fc ∷ joined And fb fc ∷ []) _ (joined And fb fc) (majority_at m c.args.a c.args.b c.args.c) e
           (third S.keeping m c.args.a c.args.b c.args.c (c.requires.lawful.keeps m.inputs) c.requires.lawful.good c.requires.held.0 c.requires.held.1 c.requires.held.2 (S.meaning c.join.new.self) c.in_ok-ab.ab c.in_ok-ab.ensures.joins (S.meaning c.join-2.new.self) c.in_ok-ac.ac c.in_ok-ac.ensures.joins m' (Err e) c.in_err-bc.ensures.joins));
@@ -65,7 +62,6 @@ returns-in_err-either g c =
     let fb = at m.held c.args.b in
     let fc = at m.held c.args.c in
     record {
-      sound = c.join-4.ensures.sound;
       makes = makes_exit S.keeping m m' (steps_at m c.args.a c.args.b c.args.c) (majority_at m c.args.a c.args.b c.args.c) c.from_residual-in_err-either.result e c.from_residual-in_err-either.ensures.1
           (makes_refused S.keeping m m' (joined And fa fb ∷ joined And fa fc ∷ joined And fb fc ∷ joined Or (joined And fa fb) (joined And fa fc) ∷ []) _ (joined Or (joined And fa fb) (joined And fa fc)) (majority_at m c.args.a c.args.b c.args.c) e
           (fourth S.keeping m c.args.a c.args.b c.args.c (c.requires.lawful.keeps m.inputs) c.requires.lawful.good c.requires.held.0 c.requires.held.1 c.requires.held.2 (S.meaning c.join.new.self) c.in_ok-ab.ab c.in_ok-ab.ensures.joins (S.meaning c.join-2.new.self) c.in_ok-ac.ac c.in_ok-ac.ensures.joins (S.meaning c.join-3.new.self) c.in_ok-bc.bc c.in_ok-bc.ensures.joins m' (Err e) c.in_err-either.ensures.joins));
@@ -76,7 +72,6 @@ returns g c =
     let S = g.S.Store in
     let m = S.meaning c.args.s.now in
     record {
-      sound = c.join-5.ensures.sound;
       makes =
           fifth S.keeping m c.args.a c.args.b c.args.c (c.requires.lawful.keeps m.inputs) c.requires.lawful.good c.requires.held.0 c.requires.held.1 c.requires.held.2 (S.meaning c.join.new.self) c.in_ok-ab.ab c.in_ok-ab.ensures.joins (S.meaning c.join-2.new.self) c.in_ok-ac.ac c.in_ok-ac.ensures.joins (S.meaning c.join-3.new.self) c.in_ok-bc.bc c.in_ok-bc.ensures.joins (S.meaning c.join-4.new.self) c.in_ok-either.either c.in_ok-either.ensures.joins (S.meaning c.join-5.new.self) c.join-5.result c.join-5.ensures.joins;
     }
