@@ -19,11 +19,11 @@ pub record Parts : Type 0 where
   pub circuit : Net
   pub rows : List SpecRow
 
-abbrev pub design_parts : Design → Parts
-design_parts d = record { circuit = net d.circuit; rows = vec_items d.rows }
-
 abbrev pub draft_parts : Draft → Parts
 draft_parts d = record { circuit = net d.circuit; rows = vec_items d.rows }
+
+abbrev pub design_parts : Design → Parts
+design_parts d = draft_parts d.draft
 
 abbrev pub no_parts : Parts
 no_parts = record { circuit = record { inputs = []; gates = []; outputs = [] }; rows = [] }

@@ -17,7 +17,7 @@ impl Design {
     pub(super) fn assignments(&self) -> usize
         ensures { result ≡ assignments (design_parts self.now).circuit }
     {
-        1 << self.circuit.inputs.len()
+        1 << self.draft.circuit.inputs.len()
     }
 
     // The bits of the stems at an assignment, at the front of the table.
@@ -25,7 +25,7 @@ impl Design {
         ensures bits { take (stem_count (design_parts self.now).circuit) result ≡ carried (design_parts self.now).circuit assignment }
         ensures room { stem_count (design_parts self.now).circuit < 77 }
     {
-        self.circuit.stem_bits(assignment)
+        self.draft.circuit.stem_bits(assignment)
     }
 
     // The pin at a position of a gate, if there is one.
@@ -33,10 +33,10 @@ impl Design {
         ensures value { result ≡ pin_at (design_parts self.now).circuit.gates gate position }
         ensures reads { IfSome result (λ p. p.stem < stem_count (design_parts self.now).circuit) }
     {
-        if gate >= self.circuit.gates.len() {
+        if gate >= self.draft.circuit.gates.len() {
             return None;
         }
-        let pins = self.circuit.gates[gate].pins.as_slice();
+        let pins = self.draft.circuit.gates[gate].pins.as_slice();
         if position >= pins.len() {
             return None;
         }
@@ -48,10 +48,10 @@ impl Design {
         ensures value { result ≡ option_map (λ (x : Output). x.pin) (slice_get (design_parts self.now).circuit.outputs output) }
         ensures reads { IfSome result (λ p. p.stem < stem_count (design_parts self.now).circuit) }
     {
-        if output >= self.circuit.outputs.len() {
+        if output >= self.draft.circuit.outputs.len() {
             return None;
         }
-        Some(self.circuit.outputs[output].pin)
+        Some(self.draft.circuit.outputs[output].pin)
     }
 
     /// The bit that a line carries at an assignment: a stem before any mark, a pin what its gate receives.

@@ -13,9 +13,9 @@ impl Design {
     pub fn counts(&self) -> Counts
         ensures { result ≡ record { inputs = length (design_parts self.now).circuit.inputs; gates = length (design_parts self.now).circuit.gates; outputs = length (design_parts self.now).circuit.outputs } }
     {
-        let inputs = self.circuit.inputs.len();
-        let gates = self.circuit.gates.len();
-        let outputs = self.circuit.outputs.len();
+        let inputs = self.draft.circuit.inputs.len();
+        let gates = self.draft.circuit.gates.len();
+        let outputs = self.draft.circuit.outputs.len();
         Counts {
             inputs,
             gates,
@@ -27,7 +27,7 @@ impl Design {
     pub(super) fn stems(&self) -> usize
         ensures { result ≡ stem_count (design_parts self.now).circuit }
     {
-        self.circuit.inputs.len() + self.circuit.gates.len()
+        self.draft.circuit.inputs.len() + self.draft.circuit.gates.len()
     }
 
     /// The place of a line, or none past the last line.
@@ -41,8 +41,8 @@ impl Design {
             return Some(Place::Stem(line));
         }
         let mut left = line - stems;
-        for gate in 0..self.circuit.gates.len() {
-            let pins = self.circuit.gates[gate].pins.as_slice().len();
+        for gate in 0..self.draft.circuit.gates.len() {
+            let pins = self.draft.circuit.gates[gate].pins.as_slice().len();
             if left < pins {
                 return Some(Place::Pin {
                     gate,
@@ -75,15 +75,15 @@ impl Design {
     fn pin_line(&self, gate: usize, position: usize) -> Option<usize>
         ensures { result ≡ line_of (design_parts self.now).circuit (Place.Pin gate position) }
     {
-        if gate >= self.circuit.gates.len() {
+        if gate >= self.draft.circuit.gates.len() {
             return None;
         }
-        if position >= self.circuit.gates[gate].pins.as_slice().len() {
+        if position >= self.draft.circuit.gates[gate].pins.as_slice().len() {
             return None;
         }
         let mut line = self.stems() + position;
         for k in 0..gate {
-            line += self.circuit.gates[k].pins.as_slice().len();
+            line += self.draft.circuit.gates[k].pins.as_slice().len();
         }
         Some(line)
     }

@@ -18,7 +18,7 @@ impl Design {
         requires { pin.stem < stem_count (design_parts self.now).circuit }
         ensures { result ≡ obeys (bound (design_parts self.now).rows output assignment) (through pin (carried (design_parts self.now).circuit assignment)) }
     {
-        match bound_value(self.rows.as_slice(), output, assignment) {
+        match bound_value(self.draft.rows.as_slice(), output, assignment) {
             None => true,
             Some(value) => {
                 let table = self.stem_bits(assignment);
@@ -56,7 +56,7 @@ impl Design {
         ensures repaired { (result ≡ 0) ↔ Repaired (design_parts self.now).circuit (design_parts self.now).rows }
         ensures value { result ≡ misses (design_parts self.now).circuit (design_parts self.now).rows }
     {
-        let outputs = self.circuit.outputs.len();
+        let outputs = self.draft.circuit.outputs.len();
         let mut count = 0;
         for output in 0..outputs {
             if self.is_missed(output) {

@@ -2,8 +2,8 @@
 ghost use Rattle.std.specs.Prelude.{IfOk};
 ghost use Rattle.circuits.specs.Drafts.{design_parts, Smallest};
 
-use crate::circuit::Circuit;
 use crate::design::Design;
+use crate::draft::Draft;
 use crate::gate::Output;
 use crate::name::Name;
 use crate::pin::Pin;
@@ -14,27 +14,19 @@ impl Design {
     pub fn new(heap: Global) -> Result<Design, AllocError>
         ensures { IfOk result (λ d. Smallest (design_parts d)) }
     {
-        let mut inputs = Vec::with_capacity(heap, 12)?;
-        let gates = Vec::with_capacity(heap, 64)?;
-        let mut outputs = Vec::with_capacity(heap, 16)?;
-        let rows = Vec::with_capacity(heap, 256)?;
+        let mut draft = Draft::new(heap)?;
         let name = Name {
             bytes: [b'a', 0, 0, 0, 0, 0, 0, 0],
             len: 1,
         };
-        inputs.push_reserved(name);
-        outputs.push_reserved(Output {
+        draft.circuit.inputs.push_reserved(name);
+        draft.circuit.outputs.push_reserved(Output {
             name,
             pin: Pin {
                 stem: 0,
                 mark: false,
             },
         });
-        let circuit = Circuit {
-            inputs,
-            gates,
-            outputs,
-        };
-        Ok(Design { circuit, rows })
+        Ok(Design { draft })
     }
 }

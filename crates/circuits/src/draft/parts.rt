@@ -172,8 +172,7 @@ impl Draft {
         if self.circuit.inputs.is_empty() || self.circuit.outputs.is_empty() {
             return Err(PartFault::Limit);
         }
-        mem::swap(&mut self.circuit, &mut design.circuit);
-        mem::swap(&mut self.rows, &mut design.rows);
+        mem::swap(self, &mut design.draft);
         Ok(())
     }
 }

@@ -6,11 +6,11 @@ use Rattle.circuits.proofs.design.Design.assignments.Goals as goal
 
 pub overflow_shl-result : goal.overflow_shl-result
 overflow_shl-result c =
-    let r = design_rules (net c.args.self.now.circuit) _ c.args.self.now.lawful in
-    omega (arith, r.few_inputs, c.args.self.now.circuit.inputs.ok.0, c.len.ensures)
+    let r = design_rules (net c.args.self.now.draft.circuit) _ c.args.self.now.lawful in
+    omega (arith, r.few_inputs, c.args.self.now.draft.circuit.inputs.ok.0, c.len.ensures)
 
 pub returns : goal.returns
 returns c =
-    let r = design_rules (net c.args.self.now.circuit) _ c.args.self.now.lawful in
-    one_shl c.len.result 64 (omega (arith, r.few_inputs, c.args.self.now.circuit.inputs.ok.0, c.len.ensures))
-    ∙ ap (λ k. 2 ^ k) (c.len.ensures ∙ c.args.self.now.circuit.inputs.ok.0)
+    let r = design_rules (net c.args.self.now.draft.circuit) _ c.args.self.now.lawful in
+    one_shl c.len.result 64 (omega (arith, r.few_inputs, c.args.self.now.draft.circuit.inputs.ok.0, c.len.ensures))
+    ∙ ap (λ k. 2 ^ k) (c.len.ensures ∙ c.args.self.now.draft.circuit.inputs.ok.0)

@@ -11,7 +11,7 @@ loop-output-init c = missed_none (design_parts c.args.self.now).circuit (design_
 pub loop-output-preserved : goal.loop-output-preserved
 loop-output-preserved c =
     let d = design_parts c.args.self.now in
-    let e = c.args.self.now.circuit.outputs.ok.0 in
+    let e = c.args.self.now.draft.circuit.outputs.ok.0 in
     elim c.if-is_missed.branch [
       | then-is_missed w ↦
           missed_more d.circuit d.rows c.loop-output.output c.loop-output.count c.if-is_missed.count true (omega (arith, e, c.len-outputs.ensures)) w.if-is_missed.ensures w.count-is c.loop-output.invariant
@@ -23,6 +23,6 @@ loop-output-preserved c =
 pub returns : goal.returns
 returns c =
     let d = design_parts c.args.self.now in
-    let e = c.args.self.now.circuit.outputs.ok.0 in
+    let e = c.args.self.now.draft.circuit.outputs.ok.0 in
     let value = missed_all d.circuit d.rows c.loop-output.output c.loop-output.count (omega (arith, e, c.len-outputs.ensures)) c.loop-output.invariant in
     record { repaired = misses_repaired d.circuit d.rows c.loop-output.count c.args.self.now.lawful value; value = value }

@@ -10,18 +10,18 @@ use Rattle.circuits.proofs.design.Design.output_pin.Goals as goal
 
 pub returns-then-output-len : goal.returns-then-output-len
 returns-then-output-len c =
-    let n = net c.args.self.now.circuit in
+    let n = net c.args.self.now.draft.circuit in
     record {
       value =
-          ap (option_map (λ (x : Output). x.pin)) (sym (slice_get_past n.outputs c.args.output (omega (arith, c.args.self.now.circuit.outputs.ok.0, c.len.ensures))));
+          ap (option_map (λ (x : Output). x.pin)) (sym (slice_get_past n.outputs c.args.output (omega (arith, c.args.self.now.draft.circuit.outputs.ok.0, c.len.ensures))));
       reads = tt;
     }
 
 pub returns : goal.returns
 returns c =
-    let n = net c.args.self.now.circuit in
+    let n = net c.args.self.now.draft.circuit in
     let r = design_rules n _ c.args.self.now.lawful in
-    let within : c.args.output < length n.outputs = omega (arith, c.args.self.now.circuit.outputs.ok.0, c.len.ensures) in
+    let within : c.args.output < length n.outputs = omega (arith, c.args.self.now.draft.circuit.outputs.ok.0, c.len.ensures) in
     let found : slice_get n.outputs c.args.output ≡ Some c.index.result.now =
     slice_get-get_or n.outputs c.args.output c.index.result.now within ∙ ap (λ (x : Output). Some x) (sym c.index.ensures)
     in
