@@ -1,37 +1,23 @@
 //! The rows of the report.
 ghost use Rattle.std.specs.Prelude.{◌≡◌, IfOk, string_bytes};
 ghost use Rattle.circuits.specs.Drafts.{design_parts};
-ghost use Rattle.rectify.specs.Rows.{job_numbers_bytes, job_row_bytes, text_letter_bytes, stop_numbers_bytes, stop_row_bytes};
+ghost use Rattle.rectify.specs.Rows.{job_row_bytes, text_letter_bytes, stop_row_bytes};
 
-use circuits::Design;
+use circuits::{Counts, Design};
 use std::alloc::{AllocError, Global};
 use texts::{ReadFault, Text, TextFault};
-
-// The row of a design that has these numbers.
-fn job_numbers(
-    heap: Global,
-    inputs: usize,
-    gates: usize,
-    outputs: usize,
-    misses: usize,
-) -> Result<String, AllocError>
-    ensures { IfOk result (λ s. string_bytes s ≡ job_numbers_bytes inputs gates outputs misses) }
-{
-    format!(in heap; "job,{inputs},{gates},{outputs},{misses}\n")
-}
 
 /// The row of a design: how many inputs, gates and outputs it has, and how many outputs do not meet their rows.
 pub fn job_row(heap: Global, design: &Design) -> Result<String, AllocError>
     ensures { IfOk result (λ s. string_bytes s ≡ job_row_bytes (design_parts design.now)) }
 {
-    let counts = design.counts();
-    job_numbers(
-        heap,
-        counts.inputs,
-        counts.gates,
-        counts.outputs,
-        design.misses(),
-    )
+    let Counts {
+        inputs,
+        gates,
+        outputs,
+    } = design.counts();
+    let misses = design.misses();
+    format!(in heap; "job,{inputs},{gates},{outputs},{misses}\n")
 }
 
 // The letter that stands for a text.
@@ -42,20 +28,6 @@ fn text_letter(text: Text) -> &'static str
         Text::Netlist => "n",
         Text::Specification => "s",
     }
-}
-
-// The row of a fault that has this number, in the text of this letter.
-fn stop_numbers(
-    heap: Global,
-    number: usize,
-    text: &str,
-    record: usize,
-    place: usize,
-    length: usize,
-) -> Result<String, AllocError>
-    ensures { IfOk result (λ s. string_bytes s ≡ stop_numbers_bytes number text.now «record» place length) }
-{
-    format!(in heap; "stop,{number},{text},{record},{place},{length}\n")
 }
 
 /// The row of a fault: its number, its text, and the number, place and length of the record.
@@ -71,12 +43,7 @@ pub fn stop_row(heap: Global, fault: ReadFault) -> Result<String, AllocError>
             length,
         },
     ) = fault;
-    stop_numbers(
-        heap,
-        cause.number(),
-        text_letter(text),
-        record,
-        place,
-        length,
-    )
+    let number = cause.number();
+    let letter = text_letter(text);
+    format!(in heap; "stop,{number},{letter},{record},{place},{length}\n")
 }
