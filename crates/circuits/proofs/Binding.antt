@@ -10,7 +10,7 @@ use Rattle.circuits.specs.declared.literal.Literal.{Literal}
 use Rattle.circuits.specs.declared.pin.Pin.{Pin}
 use Rattle.circuits.specs.declared.row.SpecRow.{SpecRow}
 use Rattle.circuits.specs.Circuits.{Net, bit, assignments, carried, through}
-use Rattle.circuits.specs.Specification.{matches, covers, binds, bound, obeys, each_below, meets, misses, misses_from}
+use Rattle.circuits.specs.Specification.{matches, covers, bound, obeys, each_below, meets, misses, misses_from}
 
 -- a literal that does not match decides
 covers_step :
@@ -32,23 +32,6 @@ covers_more ls a i m d h e f = covers_step ls a i m d h e ∙ ap (λ b. b && cov
 pub covers_none : (ls : List Literal) (a i : ℕ) → length ls ≤ i → covers (drop i ls) a ≡ true
 unfolding covers
 covers_none ls a i h = ap (λ xs. covers xs a) (drop_all i ls h)
-
--- a row that binds decides
-bound_step :
-    (rs : List SpecRow) (k a i : ℕ) (r : SpecRow) → i < length rs → r ≡ get_or rs i r → bound (drop i rs) k a ≡ cond (binds r k a) (Some r.value) (bound (drop (i + 1) rs) k a)
-unfolding bound
-bound_step rs k a i r h is = ap (λ xs. bound xs k a) (drop_more rs i r h ∙ ap (λ x. x ∷ drop (i + 1) rs) (sym is))
-
-pub bound_here : (rs : List SpecRow) (k a i : ℕ) (r : SpecRow) → i < length rs → r ≡ get_or rs i r → binds r k a ≡ true → bound (drop i rs) k a ≡ Some r.value
-bound_here rs k a i r h is e = bound_step rs k a i r h is ∙ ap (λ b. cond b (Some r.value) (bound (drop (i + 1) rs) k a)) e
-
--- and after one that does not, the others
-pub bound_more : (rs : List SpecRow) (k a i : ℕ) (r : SpecRow) → i < length rs → r ≡ get_or rs i r → binds r k a ≡ false → bound (drop i rs) k a ≡ bound (drop (i + 1) rs) k a
-bound_more rs k a i r h is e = bound_step rs k a i r h is ∙ ap (λ b. cond b (Some r.value) (bound (drop (i + 1) rs) k a)) e
-
-pub bound_none : (rs : List SpecRow) (k a i : ℕ) → length rs ≤ i → bound (drop i rs) k a ≡ None
-unfolding bound
-bound_none rs k a i h = ap (λ xs. bound xs k a) (drop_all i rs h)
 
 cases_last : (k n : ℕ) → k < suc n → (k ≡ n) ⊎ (k < n)
 cases_last k n h = ⊎_elim inl (⊎_elim inr (λ g. let z : ⊥ = omega arith in absurd z)) (cases_order k n)

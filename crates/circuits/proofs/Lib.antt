@@ -4,14 +4,13 @@ mod Binding
 mod Faults
 mod Finding
 mod Fronts
-mod Meeting
 mod Naming
 mod Numbering
 mod Ones
 mod Pushes
 mod Putting
+mod Recursions
 mod Repairing
 mod Rules
 mod Starts
-mod Walks
 mod Working

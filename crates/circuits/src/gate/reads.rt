@@ -10,11 +10,6 @@ impl Gate {
     pub(crate) fn reads_below(&self, stems: usize) -> bool
         ensures { result ≡ pins_read stems (pins_of self.now) }
     {
-        for pin in self.pins.as_slice() {
-            if pin.stem >= stems {
-                return false;
-            }
-        }
-        true
+        self.pins.as_slice().iter().all(|pin| pin.stem < stems)
     }
 }

@@ -23,12 +23,7 @@ impl Literal {
 fn patterns_meet(first: &[Literal], second: &[Literal]) -> bool
     ensures { result ≡ meet first.now second.now }
 {
-    for (a, b) in first.iter().zip(second) {
-        if !a.overlaps(*b) {
-            return false;
-        }
-    }
-    true
+    first.iter().zip(second).all(|(a, b)| a.overlaps(*b))
 }
 
 impl SpecRow {
@@ -45,11 +40,6 @@ impl SpecRow {
     pub(crate) fn agrees_with(&self, rows: &[SpecRow]) -> bool
         ensures { result ≡ agrees rows.now self.now }
     {
-        for row in rows {
-            if row.clashes(self) {
-                return false;
-            }
-        }
-        true
+        rows.iter().all(|row| !row.clashes(self))
     }
 }

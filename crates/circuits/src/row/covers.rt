@@ -47,10 +47,7 @@ impl SpecRow {
 pub(crate) fn bound_value(rows: &[SpecRow], output: usize, assignment: usize) -> Option<bool>
     ensures { result ≡ bound rows.now output assignment }
 {
-    for row in rows {
-        if row.binds(output, assignment) {
-            return Some(row.value);
-        }
-    }
-    None
+    rows.iter()
+        .find(|row| row.binds(output, assignment))
+        .map(|row| row.value)
 }

@@ -1,17 +1,13 @@
-use Rattle.std.proofs.Common.{sym, ◌∙◌}
-use Rattle.circuits.proofs.Meeting.{meet_next, meet_done}
+use Rattle.std.proofs.Common.{rules, tests}
+use Rattle.std.proofs.lemmas.Iterator.{YieldsList-from_slice, YieldsList-from_zip}
+use Rattle.std.proofs.lemmas.Iterator.Search.{all_from_yields_List}
+use Rattle.circuits.specs.Specification.{overlap}
+use Rattle.circuits.specs.declared.literal.Literal.{Literal}
+use Rattle.circuits.proofs.Recursions.{meet_all}
 use Rattle.circuits.proofs.row.clash.patterns_meet.Goals as goal
 
-pub loop-a-init : goal.loop-a-init
-loop-a-init c = let e = c.zip-a-items.ensures.second.0 in cc
-
-pub returns-then-not-overlaps : goal.returns-then-not-overlaps
-returns-then-not-overlaps c =
-    sym (c.loop-a.invariant ∙ meet_next _ _ _ _ _ _ _ c.in-Some.ensures.steps.0 c.in-Some.ensures.steps.1 c.if-not-overlaps.ensures)
-
-pub loop-a-preserved : goal.loop-a-preserved
-loop-a-preserved c =
-    c.loop-a.invariant ∙ meet_next _ _ _ _ _ _ _ c.in-Some.ensures.steps.0 c.in-Some.ensures.steps.1 c.if-not-overlaps.ensures
-
 pub returns : goal.returns
-returns c = sym (c.loop-a.invariant ∙ meet_done _ _ _ _ c.in-None.ensures.steps)
+returns c =
+    rw meet_all
+    (all_from_yields_List (λ (p : Literal × Literal). overlap p.0 p.1) c.all.new.self _ _ c.all.ensures.ran
+    (YieldsList-from_zip (YieldsList-from_slice c.args.first.now cc) (YieldsList-from_slice c.args.second.now cc)) (λ x b q k. search (rules, tests)))

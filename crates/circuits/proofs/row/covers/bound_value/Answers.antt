@@ -1,17 +1,12 @@
-use Rattle.std.proofs.Common.{sym, ◌∙◌, arith}
-use Rattle.circuits.proofs.Binding.{bound_here, bound_more, bound_none}
+use Rattle.std.proofs.Common.{rules, tests}
+use Rattle.std.proofs.lemmas.Iterator.{YieldsList-from_slice}
+use Rattle.std.proofs.lemmas.Iterator.Search.{find_from_yields_List}
+use Rattle.circuits.specs.Specification.{binds}
+use Rattle.circuits.specs.declared.row.SpecRow.{SpecRow}
+use Rattle.circuits.proofs.Recursions.{bound_find}
 use Rattle.circuits.proofs.row.covers.bound_value.Goals as goal
 
-pub returns-then-binds : goal.returns-then-binds
-returns-then-binds c =
-    sym
-    (c.loop-row.invariant
-    ∙ bound_here c.args.rows.now c.args.output c.args.assignment c.loop-row.row-index c.row-item.result (omega arith) c.row-item.is (sym c.if-binds.ensures))
-
-pub loop-row-preserved : goal.loop-row-preserved
-loop-row-preserved c =
-    c.loop-row.invariant
-    ∙ bound_more c.args.rows.now c.args.output c.args.assignment c.loop-row.row-index c.row-item.result (omega arith) c.row-item.is (sym c.if-binds.ensures)
-
 pub returns : goal.returns
-returns c = sym (c.loop-row.invariant ∙ bound_none c.args.rows.now c.args.output c.args.assignment c.loop-row.row-index (omega arith))
+returns c =
+    let found = find_from_yields_List (λ (r : SpecRow). binds r c.args.output c.args.assignment) _ _ c.find.result c.find.ensures.ran (YieldsList-from_slice c.args.rows.now cc) (λ x b q k. search (rules, tests)) in
+    rw (bound_find, ← found) (search rules)
