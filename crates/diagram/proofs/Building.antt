@@ -1,5 +1,5 @@
 -- What a sound diagram store holds, and how it comes to hold a node.
-use Rattle.std.proofs.Common.{◌≡◌, ℕ, zero, suc, ◌+◌, ◌<◌, ◌≤◌, true, false, List, [], ◌∷◌, ◌++◌, length, replicate, Some, None, Ok, sym, refl, ap, ◌∙◌, subst, inl, inr, arith}
+use Rattle.std.proofs.Common.{◌≡◌, ℕ, zero, suc, ◌+◌, ◌-◌, ◌<◌, ◌≤◌, true, false, List, [], ◌∷◌, ◌++◌, length, replicate, get_or, set, length-set, Some, None, Ok, sym, refl, ap, ◌∙◌, subst, inl, inr, arith}
 use lib.ListN.{length-replicate}
 use lib.Seq.{get_or_at}
 use Rattle.std.proofs.lemmas.List.{get_or-replicate}
@@ -9,14 +9,15 @@ use Rattle.stores.specs.Meaning.{Good, Lawful, Gained, Overfull, at, has}
 use Rattle.stores.proofs.Sames.{Same_sym}
 use Rattle.stores.proofs.Laws.{held_already, gained_new, overfull_new}
 use Rattle.diagram.specs.declared.row.Row.{Row}
-use Rattle.diagram.specs.Chains.{row, newest, HasParts, Placed}
-use Rattle.diagram.specs.Rows.{node, functions, top, Ordered}
+use Rattle.diagram.specs.Chains.{row, chain, chain_of_row, newest, Chained, HasParts, Placed, LinkedOf}
+use Rattle.diagram.specs.Rows.{node, functions, top, Ordered, SoundOf}
 use Rattle.diagram.specs.Subfunctions.{subfunctions}
-use Rattle.diagram.specs.Diagrams.{meaning_of, SoundOf, LinkedOf, LaterOf, ExtendsOf, AppendedOf, BuildsOf}
+use Rattle.diagram.specs.Diagrams.{meaning_of, LaterOf, ExtendsOf, AppendedOf, BuildsOf}
+use Rattle.diagram.proofs.Chaining.{chained_more, chained_less, set_before, set_here}
 use Rattle.diagram.proofs.Nodes.{node_both}
 use Rattle.diagram.proofs.Subfunctions.{keeps}
 use Rattle.diagram.proofs.Rows.{row_function, functions_kept, functions_length, functions_more, functions_none, functions_grown, at_row, top_kept}
-use Rattle.diagram.proofs.Canonical.{functions_differ, canonical, new_function, kept_held}
+use Rattle.diagram.proofs.Canonical.{functions_differ, canonical, new_function, kept_held, fewer_reduced}
 
 pub extends_none : (n len : ℕ) (rows : List Row) → ExtendsOf n len rows n len rows
 extends_none n len rows = record { inputs_kept = refl; longer = omega arith; size_kept = refl; rows_kept = λ k l. refl }
@@ -74,7 +75,7 @@ module _ (n len : ℕ) (rows : List Row) (heads : List ℕ) (s : SoundOf n len r
       pub node_full : length rows ≤ len → Overfull subfunctions (meaning_of n len rows) (node n v (at (functions n rows len) low) (at (functions n rows len) high) ∷ [])
       node_full l = overfull_new subfunctions (meaning_of n len rows) (node n v (at (functions n rows len) low) (at (functions n rows len) high)) good (keeps n) node_new (omega (arith, others_length))
 
-      module _ (room : len < length rows) (rows' : List Row) (heads' : List ℕ) (a : AppendedOf n len rows v low high n (len + 1) rows') (linked : LinkedOf (len + 1) rows' heads') where
+      module _ (rows' : List Row) (a : AppendedOf n len rows v low high n (len + 1) rows') where
         tops : (h : ℕ) → h < len + 2 → top n rows' h ≡ top n rows h
         tops h l = top_kept n rows rows' len h a.rows_kept l
 
@@ -119,8 +120,8 @@ module _ (n len : ℕ) (rows : List Row) (heads : List ℕ) (s : SoundOf n len r
                   none j (omega arith) (rw (q.variable_is, q.low_is, q.high_is) at p')
             ]
 
-        pub sound_more : SoundOf n (len + 1) rows' heads'
-        sound_more = record { few = s.few; reduced = record { ordered = ordered_more; once = once_more }; linked = linked }
+        pub sound_more : (heads' : List ℕ) → LinkedOf (len + 1) rows' heads' → SoundOf n (len + 1) rows' heads'
+        sound_more heads' linked = record { few = s.few; reduced = record { ordered = ordered_more; once = once_more }; linked = linked }
 
         pub extends_more : ExtendsOf n len rows n (len + 1) rows'
         extends_more = record { inputs_kept = refl; longer = omega arith; size_kept = a.size_kept; rows_kept = a.rows_kept }
@@ -146,8 +147,8 @@ module _ (n len : ℕ) (rows : List Row) (heads : List ℕ) (s : SoundOf n len r
         kept_new g e =
             subst (λ x. has n g x ≡ true) functions_one (kept_held n rows' (len + 1) ordered_more (len + 1 + 1) (omega arith) g (subst (λ x. has n g (subfunctions n x) ≡ true) (sym at_new) e))
 
-        pub built : BuildsOf n len rows (node n v (at (functions n rows len) low) (at (functions n rows len) high)) v (Ok (len + 1 + 1)) (len + 1) rows'
-        built = (
+        pub built : len < length rows → BuildsOf n len rows (node n v (at (functions n rows len) low) (at (functions n rows len) high)) v (Ok (len + 1 + 1)) (len + 1) rows'
+        built room = (
           subst (λ x. Gained subfunctions (meaning_of n len rows) (node n v (at (functions n rows len) low) (at (functions n rows len) high) ∷ []) x) (sym meaning_new)
               (gained_new subfunctions (meaning_of n len rows) (node n v (at (functions n rows len) low) (at (functions n rows len) high)) good (keeps n) node_new (omega (arith, others_length)) kept_new),
           record { within = omega (arith, functions_length n rows' (len + 1)); means = λ p q. ap (λ x. x p) at_new },
@@ -155,11 +156,57 @@ module _ (n len : ℕ) (rows : List Row) (heads : List ℕ) (s : SoundOf n len r
         )
 
       -- the same for a store whose fields are known by what `append` leaves
-      pub node_appended : (room : len < length rows) (n' len' : ℕ) (rows' : List Row) (heads' : List ℕ) → AppendedOf n len rows v low high n' len' rows' → LinkedOf len' rows' heads' → SoundOf n' len' rows' heads' × ExtendsOf n len rows n' len' rows' × BuildsOf n len rows (node n v (at (functions n rows len) low) (at (functions n rows len) high)) v (Ok (len' + 1)) len' rows'
-      node_appended room n' len' rows' heads' a linked =
-          subst (λ y. AppendedOf n len rows v low high n' y rows' → LinkedOf y rows' heads' → SoundOf n' y rows' heads' × ExtendsOf n len rows n' y rows' × BuildsOf n len rows (node n v (at (functions n rows len) low) (at (functions n rows len) high)) v (Ok (y + 1)) y rows') (sym a.one_more)
-          (λ b l. subst (λ x. AppendedOf n len rows v low high x (len + 1) rows' → SoundOf x (len + 1) rows' heads' × ExtendsOf n len rows x (len + 1) rows' × BuildsOf n len rows (node n v (at (functions n rows len) low) (at (functions n rows len) high)) v (Ok (len + 1 + 1)) (len + 1) rows') (sym a.inputs_kept)
-          (λ d. (sound_more room rows' heads' d l, extends_more room rows' heads' d l, built room rows' heads' d l)) b) a linked
+      pub node_appended : (n' len' : ℕ) (rows' : List Row) → AppendedOf n len rows v low high n' len' rows' → len < length rows → ExtendsOf n len rows n' len' rows' × BuildsOf n len rows (node n v (at (functions n rows len) low) (at (functions n rows len) high)) v (Ok (len' + 1)) len' rows'
+      node_appended n' len' rows' a room =
+          subst (λ y. AppendedOf n len rows v low high n' y rows' → ExtendsOf n len rows n' y rows' × BuildsOf n len rows (node n v (at (functions n rows len) low) (at (functions n rows len) high)) v (Ok (y + 1)) y rows') (sym a.one_more)
+          (λ b. subst (λ x. AppendedOf n len rows v low high x (len + 1) rows' → ExtendsOf n len rows x (len + 1) rows' × BuildsOf n len rows (node n v (at (functions n rows len) low) (at (functions n rows len) high)) v (Ok (len + 1 + 1)) (len + 1) rows') (sym a.inputs_kept)
+          (λ d. (extends_more rows' d, built rows' d room)) b) a
+
+      -- the new row at the head of its chain b
+      module _ (room : len < length rows) (b : ℕ) (e : b ≡ chain v low high) (few : b < 1024) where
+        abbrev new_row : Row
+        new_row = record { variable = v; low = low; high = high; next = get_or heads b 0 }
+
+        linked : new_row.next ≡ get_or heads (chain_of_row new_row) 0
+        linked = ap (λ x. get_or heads x 0) e
+
+        in_chain : chain_of_row new_row < 1024
+        in_chain = subst (λ x. x < 1024) e few
+
+        pub row_appended : AppendedOf n len rows v low high n (len + 1) (set rows len new_row)
+        row_appended =
+            let here = set_here len rows heads new_row s.linked.chained room linked in_chain in
+            record {
+              inputs_kept = refl;
+              one_more = refl;
+              size_kept = length-set rows len new_row;
+              rows_kept = set_before len rows heads new_row s.linked.chained room linked in_chain;
+              row_new = record { variable_is = ap (λ x. x.variable) here; low_is = ap (λ x. x.low) here; high_is = ap (λ x. x.high) here };
+            }
+
+        pub row_sound : SoundOf n (len + 1) (set rows len new_row) (set heads b (len + 2))
+        row_sound =
+            let size = length-set rows len new_row in
+            sound_more (set rows len new_row) row_appended (set heads b (len + 2)) (record {
+              within = omega arith;
+              bounded = omega (arith, s.linked.bounded);
+              chained = subst (λ x. Chained (len + 1) (set rows len new_row) (set heads x (len + 2))) (sym e) (chained_more len rows heads new_row s.linked.chained room linked in_chain);
+            })
+
+-- a store without its newest row, which was taken off the head of its chain b
+pub less_sound : (n len : ℕ) (rows : List Row) (heads : List ℕ) → SoundOf n len rows heads → 0 < len → (b : ℕ) → b ≡ chain_of_row (row rows (len - 1)) → b < 1024 → SoundOf n (len - 1) rows (set heads b (row rows (len - 1)).next)
+less_sound n len rows heads s some b e few =
+    let k = len - 1 in
+    let z : len ≡ suc k = omega arith in
+    record {
+      few = s.few;
+      reduced = fewer_reduced n rows len k (omega arith) s.reduced;
+      linked = record {
+        within = omega (arith, s.linked.within);
+        bounded = s.linked.bounded;
+        chained = subst (λ x. Chained k rows (set heads x (row rows k).next)) (sym e) (chained_less k rows heads (subst (λ x. Chained x rows heads) z s.linked.chained) (subst (λ x. x < 1024) e few));
+      };
+    }
 
 -- a store before its first start, or after a start
 pub new_sound : (n : ℕ) (rows : List Row) → n ≤ 12 → length rows ≤ 4096 → SoundOf n 0 rows (replicate 1024 0)

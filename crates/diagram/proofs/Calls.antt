@@ -10,13 +10,13 @@ use Rattle.stores.proofs.Sames.{Same_sym}
 use Rattle.stores.proofs.Laws.{yields_as}
 use Rattle.diagram.specs.declared.row.Row.{Row}
 use Rattle.diagram.specs.Chains.{row}
-use Rattle.diagram.specs.Rows.{node, functions, top}
+use Rattle.diagram.specs.Rows.{node, functions, top, SoundOf}
 use Rattle.diagram.specs.Subfunctions.{with_bit, cofactor, subfunctions}
-use Rattle.diagram.specs.Diagrams.{meaning_of, SoundOf, LinkedOf, LaterOf, ExtendsOf, CutOf, BuildsOf}
+use Rattle.diagram.specs.Diagrams.{meaning_of, LaterOf, ExtendsOf, CutOf, BuildsOf}
 use Rattle.diagram.proofs.Nodes.{variable_node, cofactor_same}
 use Rattle.diagram.proofs.Subfunctions.{keeps}
 use Rattle.diagram.proofs.Rows.{functions_kept, functions_none, functions_length, functions_take, at_fewer, at_row}
-use Rattle.diagram.proofs.Canonical.{part_held, fewer_reduced}
+use Rattle.diagram.proofs.Canonical.{part_held}
 use Rattle.diagram.proofs.Building.{stays}
 
 pub at_never : (n : ℕ) (rows : List Row) (len : ℕ) → at (functions n rows len) 0 ≡ never
@@ -45,15 +45,6 @@ cut_yields n len rows f v Inputs n₁ len₁ rows₁ n₂ len₂ rows₂ e c b =
 cut_yields n len rows f v Bounds n₁ len₁ rows₁ n₂ len₂ rows₂ e c b = absurd b
 cut_yields n len rows f v Places n₁ len₁ rows₁ n₂ len₂ rows₂ e c b =
     (tt, b, ap (λ x. meaning_of x len₂ rows₂) c.inputs_kept ∙ (ap (λ x. meaning_of n₁ x rows₂) c.len_is ∙ (ap (λ x. meaning_of n₁ len x) c.rows_kept ∙ restored n len rows n₁ len₁ rows₁ e)))
-
--- A store stays sound when rows are cut off.
-pub cut_sound : (n len : ℕ) (rows : List Row) (heads : List ℕ) → SoundOf n len rows heads → (to : ℕ) → to ≤ len → (n' len' : ℕ) (rows' : List Row) (heads' : List ℕ) → CutOf n rows to n' len' rows' → LinkedOf len' rows' heads' → SoundOf n' len' rows' heads'
-cut_sound n len rows heads s to l n' len' rows' heads' c linked =
-    record {
-      few = subst (λ x. x ≤ 12) (sym c.inputs_kept) s.few;
-      reduced = rw (c.inputs_kept, c.len_is, c.rows_kept) (fewer_reduced n rows len to l s.reduced);
-      linked = linked;
-    }
 
 pub cut_meaning : (n len : ℕ) (rows : List Row) (m n' len' : ℕ) (rows' : List Row) → 2 ≤ m → m ≤ len + 2 → CutOf n rows (m - 2) n' len' rows' → meaning_of n' len' rows' ≡ cut (meaning_of n len rows) m
 cut_meaning n len rows m n' len' rows' two top c =

@@ -4,8 +4,8 @@ use Rattle.stores.specs.Functions.{Same}
 use Rattle.stores.specs.Meaning.{at}
 use Rattle.diagram.specs.declared.row.Row.{Row}
 use Rattle.diagram.specs.Chains.{row}
-use Rattle.diagram.specs.Rows.{node, functions}
-use Rattle.diagram.specs.Diagrams.{SoundOf, LaterOf}
+use Rattle.diagram.specs.Rows.{node, functions, SoundOf}
+use Rattle.diagram.specs.Diagrams.{LaterOf}
 use Rattle.diagram.proofs.Rows.{at_row}
 
 module _ (n len : ℕ) (rows : List Row) (heads : List ℕ) (s : SoundOf n len rows heads) where

@@ -9,9 +9,9 @@ use Rattle.stores.specs.Meaning.{Gained, Stands, at, has, kept}
 use Rattle.stores.proofs.Sames.{Same_sym, Same_trans, has_append, both_same}
 use Rattle.stores.proofs.Laws.{gained_then, gained_as, gained_same, overfull_then, overfull_as, overfull_same, stands_grown}
 use Rattle.diagram.specs.declared.row.Row.{Row}
-use Rattle.diagram.specs.Rows.{node, Free, functions, top}
+use Rattle.diagram.specs.Rows.{node, Free, functions, top, SoundOf}
 use Rattle.diagram.specs.Subfunctions.{subfunctions}
-use Rattle.diagram.specs.Diagrams.{meaning_of, SoundOf, LaterOf, ExtendsOf, BuildsOf, Settled}
+use Rattle.diagram.specs.Diagrams.{meaning_of, LaterOf, ExtendsOf, BuildsOf, Settled}
 use Rattle.diagram.proofs.Nodes.{free_fewer, free_joined, joined_nodes, node_same}
 use Rattle.diagram.proofs.Subfunctions.{keeps, low_kept, high_kept}
 use Rattle.diagram.proofs.Rows.{functions_kept, functions_none, functions_length, at_fewer, top_most, top_kept}

@@ -1,5 +1,5 @@
 -- The chains of rows: each row is linked to the newest earlier row of its chain, and each chain has a head, its newest row.
-use Rattle.std.specs.Prelude.{◌≡◌, ℕ, zero, suc, ◌+◌, ◌*◌, ◌%◌, ◌<◌, cond, List, length, Some, None, Option, ◌==◌, slice_index, slice_index_or}
+use Rattle.std.specs.Prelude.{◌≡◌, ℕ, zero, suc, ◌+◌, ◌*◌, ◌%◌, ◌<◌, ◌≤◌, cond, List, length, Some, None, Option, ◌==◌, slice_index, slice_index_or}
 use Rattle.diagram.specs.declared.row.Row.{Row}
 
 abbrev pub blank : Row
@@ -26,6 +26,12 @@ pub record Chained (len : ℕ) (rows : List Row) (heads : List ℕ) : Type 0 whe
   pub many : length heads ≡ 1024
   pub starts : (b : ℕ) → b < 1024 → slice_index heads b ≡ newest rows b len
   pub links : (k : ℕ) → k < len → (row rows k).next ≡ newest rows (chain_of_row (row rows k)) k
+
+-- The rows are found by their chains.
+pub record LinkedOf (len : ℕ) (rows : List Row) (heads : List ℕ) : Type 0 where
+  pub within : len ≤ length rows
+  pub bounded : length rows ≤ 4096
+  pub chained : Chained len rows heads
 
 pub record HasParts (r : Row) (variable low high : ℕ) : Type 0 where
   pub variable_is : r.variable ≡ variable

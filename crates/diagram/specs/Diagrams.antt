@@ -7,8 +7,8 @@ use Rattle.stores.specs.Functions.{Function, Same, combine}
 use Rattle.stores.specs.Meaning.{Meaning, at, Gained, Overfull, Stands}
 use Rattle.diagram.specs.declared.row.Row.{Row}
 use Rattle.diagram.specs.declared.diagram.Diagram.{Diagram}
-use Rattle.diagram.specs.Chains.{row, Chained, HasParts, Placed}
-use Rattle.diagram.specs.Rows.{node, functions, top, Reduced}
+use Rattle.diagram.specs.Chains.{row, HasParts, Placed}
+use Rattle.diagram.specs.Rows.{node, functions, top, SoundOf}
 use Rattle.diagram.specs.Subfunctions.{subfunctions}
 
 -- a store of n inputs that uses the first len of its rows
@@ -18,20 +18,7 @@ meaning_of n len rows = record { inputs = n; most = 12; places = length rows; he
 abbrev pub diagram_meaning : Diagram → Meaning
 diagram_meaning d = meaning_of d.inputs d.len d.rows.now
 
--- The rows are found by their chains.
-pub record LinkedOf (len : ℕ) (rows : List Row) (heads : List ℕ) : Type 0 where
-  pub within : len ≤ length rows
-  pub bounded : length rows ≤ 4096
-  pub chained : Chained len rows heads
-
-abbrev pub Linked : Diagram → Type 0
-Linked d = LinkedOf d.len d.rows.now d.heads
-
-pub record SoundOf (n len : ℕ) (rows : List Row) (heads : List ℕ) : Type 0 where
-  pub few : n ≤ 12
-  pub reduced : Reduced n len rows
-  pub linked : LinkedOf len rows heads
-
+-- what the type says of each store
 abbrev pub Sound : Diagram → Type 0
 Sound d = SoundOf d.inputs d.len d.rows.now d.heads
 

@@ -3,7 +3,7 @@ use Rattle.std.specs.Prelude.{◌≡◌, ℕ, zero, suc, ◌+◌, ◌-◌, ◌<�
 use Rattle.stores.specs.Functions.{Function, never, always, points, variable}
 use Rattle.stores.specs.Meaning.{at}
 use Rattle.diagram.specs.declared.row.Row.{Row}
-use Rattle.diagram.specs.Chains.{row, HasParts}
+use Rattle.diagram.specs.Chains.{row, HasParts, LinkedOf}
 use Rattle.diagram.specs.Subfunctions.{with_bit}
 
 -- f where variable v is 0, and g where it is 1
@@ -39,3 +39,9 @@ pub record Ordered (n : ℕ) (rows : List Row) (k : ℕ) : Type 0 where
 pub record Reduced (n len : ℕ) (rows : List Row) : Type 0 where
   pub ordered : (k : ℕ) → k < len → Ordered n rows k
   pub once : (j k : ℕ) → j < k → k < len → HasParts (row rows j) (row rows k).variable (row rows k).low (row rows k).high → ⊥
+
+-- What holds of a store of n inputs that uses the first len of its rows.
+pub record SoundOf (n len : ℕ) (rows : List Row) (heads : List ℕ) : Type 0 where
+  pub few : n ≤ 12
+  pub reduced : Reduced n len rows
+  pub linked : LinkedOf len rows heads

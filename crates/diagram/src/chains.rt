@@ -1,8 +1,8 @@
 //! The chains by which a row with given parts is found: each row is linked to the newest earlier row of its chain, and
 //! each chain has a head, its newest row.
-ghost use Rattle.std.specs.Prelude.{◌≡◌, ◌+◌, ◌<◌, ◌≤◌, length, slice_set};
+ghost use Rattle.std.specs.Prelude.{◌≡◌, ◌<◌, ◌≤◌, length, None};
 ghost use Rattle.diagram.specs.Chains.{chain};
-ghost use Rattle.diagram.specs.Diagrams.{Linked, Standing, Appended, Cut};
+ghost use Rattle.diagram.specs.Diagrams.{Standing, Later, Appended, Cut};
 
 use crate::diagram::Diagram;
 use crate::row::Row;
@@ -14,18 +14,9 @@ fn chain_of(variable: u8, low: u16, high: u16) -> usize
     (variable as usize + 31 * low as usize + 509 * high as usize) % 1024
 }
 
-// Writes a row.
-fn put(rows: &mut [Row], k: usize, row: Row)
-    requires { k < length rows.old }
-    ensures { rows.new ≡ slice_set rows.old k row }
-{
-    rows[k] = row;
-}
-
 impl Diagram<'_> {
     // The handle of the row with these parts, if it stands among the rows.
     pub(crate) fn find(&self, variable: u8, low: u16, high: u16) -> Option<usize>
-        requires { Linked self.now }
         ensures { Standing self.now variable low high result }
     {
         let mut h = self.heads[chain_of(variable, low, high)] as usize;
@@ -39,41 +30,36 @@ impl Diagram<'_> {
         None
     }
 
-    // Puts a row with these parts behind the others, at the head of its chain.
+    // Puts a row with these parts, of which none stands among the rows, behind the others, at the head of its chain.
     pub(crate) fn append(&mut self, variable: u8, low: u16, high: u16)
-        requires linked { Linked self.old }
         requires room { self.old.len < length self.old.rows.now }
-        ensures linked { Linked self.new }
-        ensures appended { Appended self.old variable low high self.new }
+        requires later { Later self.old variable low high }
+        requires differ { low ≡ high → ⊥ }
+        requires fresh { Standing self.old variable low high None }
+        ensures { Appended self.old variable low high self.new }
     {
         let len = self.len;
         let b = chain_of(variable, low, high);
         let next = self.heads[b];
-        put(
-            self.rows,
-            len,
-            Row {
-                variable,
-                low,
-                high,
-                next,
-            },
-        );
+        self.rows[len] = Row {
+            variable,
+            low,
+            high,
+            next,
+        };
         self.heads[b] = (len + 2) as u16;
         self.len = len + 1;
     }
 
     // Takes the newest rows off the heads of their chains, down to the first `to`.
     pub(crate) fn cut(&mut self, to: usize)
-        requires linked { Linked self.old }
-        requires fewer { to ≤ self.old.len }
-        ensures linked { Linked self.new }
-        ensures cut { Cut self.old to self.new }
+        requires { to ≤ self.old.len }
+        ensures { Cut self.old to self.new }
     {
-        for k in (to..self.len).rev() {
-            let row = self.rows[k];
+        while to < self.len {
+            let row = self.rows[self.len - 1];
             self.heads[chain_of(row.variable, row.low, row.high)] = row.next;
+            self.len -= 1;
         }
-        self.len = to;
     }
 }

@@ -1,8 +1,6 @@
 //! The diagram store: its rows, and the node of a variable and two parts.
 ghost use Rattle.std.specs.Prelude.{◌≡◌, ◌<◌, ◌≤◌, min, length};
-ghost use Rattle.stores.specs.Meaning.{empty};
-ghost use Rattle.diagram.specs.Rows.{node};
-ghost use Rattle.diagram.specs.Diagrams.{Sound, Held, Later, Parts, Extends, Builds, RefusedInPlace, diagram_meaning, top_of, function_of};
+ghost use Rattle.diagram.specs.Rows.{SoundOf};
 
 use crate::row::Row;
 use stores::StoreFault;
@@ -17,14 +15,19 @@ pub struct Diagram<'a> {
     pub(crate) heads: [u16; 1024],
     pub(crate) len: usize,
     pub(crate) inputs: usize,
+    ghost sound: { SoundOf inputs len rows.now heads },
 }
 
 impl<'a> Diagram<'a> {
+    ghost use Rattle.stores.specs.Meaning.{empty};
+    ghost use Rattle.diagram.specs.Rows.{node};
+    ghost use Rattle.diagram.specs.Diagrams.{Held, Later, Parts, Extends, Builds, RefusedInPlace, diagram_meaning, top_of, function_of};
+
     /// A store over the rows that are lent, of which it uses the first 4096.
     pub fn new(rows: &'a mut [Row]) -> Diagram<'a>
-        ensures { Sound result × (diagram_meaning result ≡ empty 12 (min 4096 (length rows.old))) }
+        ensures { diagram_meaning result ≡ empty 12 (min 4096 (length rows.old)) }
     {
-        let count = if rows.len() < 4096 { rows.len() } else { 4096 };
+        let count = rows.len().min(4096);
         Diagram {
             rows: &mut rows[0..count],
             heads: [0; 1024],
@@ -35,8 +38,7 @@ impl<'a> Diagram<'a> {
 
     // The variable of a handle's row, or the number after all variables where it is a constant's.
     pub(crate) fn top(&self, h: usize) -> usize
-        requires sound { Sound self.now }
-        requires held { Held self.now h }
+        requires { Held self.now h }
         ensures { result ≡ top_of self.now h }
     {
         if h < 2 {
@@ -47,7 +49,6 @@ impl<'a> Diagram<'a> {
 
     // What is left of a handle's function where its first variable or an earlier one, v, is 0 and where it is 1.
     pub(crate) fn parts(&self, h: usize, v: usize) -> (usize, usize)
-        requires sound { Sound self.now }
         requires held { Held self.now h }
         requires known { v ≤ self.now.inputs }
         requires first { v ≤ top_of self.now h }
@@ -66,15 +67,12 @@ impl<'a> Diagram<'a> {
 
     // Yields the function that is low's where variable v is 0, and high's where it is 1.
     pub(crate) fn node(&mut self, v: usize, low: usize, high: usize) -> Result<usize, StoreFault>
-        requires sound { Sound self.old }
-        requires later { Later self.old v low high }
-        ensures sound { Sound self.new }
+        requires { Later self.old v low high }
         ensures extends { Extends self.old self.new }
         ensures refused { RefusedInPlace self.old result self.new }
         ensures builds { Builds self.old (node self.old.inputs v (function_of self.old low) (function_of self.old high)) v result self.new }
     {
-        let idle = low == high;
-        if idle {
+        if low == high {
             return Ok(low);
         }
         if let Some(h) = self.find(v as u8, low as u16, high as u16) {
@@ -89,8 +87,7 @@ impl<'a> Diagram<'a> {
 
     // The bit of a handle's function at a point, going down the diagram.
     pub(crate) fn bit(&self, f: usize, p: usize) -> bool
-        requires sound { Sound self.now }
-        requires held { Held self.now f }
+        requires { Held self.now f }
         ensures { result ≡ function_of self.now f p }
     {
         let mut h = f;

@@ -2,7 +2,7 @@
 ghost use Rattle.std.specs.Prelude.{min, [], ◌∷◌};
 ghost use Rattle.stores.specs.Functions.{joined};
 ghost use Rattle.stores.specs.Meaning.{Yields};
-ghost use Rattle.diagram.specs.Diagrams.{Sound, Held, Extends, Builds, Settled, top_of, function_of, diagram_meaning};
+ghost use Rattle.diagram.specs.Diagrams.{Held, Extends, Builds, Settled, top_of, function_of, diagram_meaning};
 ghost use Rattle.diagram.specs.Subfunctions.{subfunctions};
 
 use crate::diagram::Diagram;
@@ -32,10 +32,8 @@ impl Diagram<'_> {
         f: usize,
         g: usize,
     ) -> Result<usize, StoreFault>
-        requires sound { Sound self.old }
         requires left { Held self.old f }
         requires right { Held self.old g }
-        ensures sound { Sound self.new }
         ensures extends { Extends self.old self.new }
         ensures builds { Builds self.old (joined op (function_of self.old f) (function_of self.old g)) (min (top_of self.old f) (top_of self.old g)) result self.new }
     {
@@ -57,11 +55,9 @@ impl Diagram<'_> {
         f: usize,
         g: usize,
     ) -> Result<usize, StoreFault>
-        requires sound { Sound self.old }
         requires left { Held self.old f }
         requires right { Held self.old g }
-        ensures sound { Sound self.new }
-        ensures yields { Yields subfunctions (diagram_meaning self.old) (Unit {0}) (joined op (function_of self.old f) (function_of self.old g) ∷ []) (joined op (function_of self.old f) (function_of self.old g)) result (diagram_meaning self.new) }
+        ensures { Yields subfunctions (diagram_meaning self.old) (Unit {0}) (joined op (function_of self.old f) (function_of self.old g) ∷ []) (joined op (function_of self.old f) (function_of self.old g)) result (diagram_meaning self.new) }
     {
         let before = self.len;
         match self.join_down(op, f, g) {

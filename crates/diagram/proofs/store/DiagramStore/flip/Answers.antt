@@ -7,7 +7,7 @@ returns-then-self-f c =
     let d = c.args.self.now in
     record { sound = c.requires; flips = (not_held d.inputs d.len d.rows.now d.heads c.requires c.args.f c.if-self-f.true, refl) }
 
-pub returns : goal.returns
-returns c =
+pub returns-clause-flips : goal.returns-clause-flips
+returns-clause-flips c =
     let d = c.args.self.now in
-    record { sound = c.join_whole.ensures.sound; flips = answers_flip d.inputs d.len d.rows.now d.heads c.requires c.args.f c.join_whole.result _ c.if-self-f.false c.join_whole.ensures.yields }
+    answers_flip d.inputs d.len d.rows.now d.heads d.sound c.args.f c.join_whole.result _ c.if-self-f.false c.join_whole.ensures

@@ -23,11 +23,8 @@ returns-then-self-f c =
       );
     }
 
-pub returns : goal.returns
-returns c =
+pub returns-clause-joins : goal.returns-clause-joins
+returns-clause-joins c =
     let d = c.args.self.now in
     let f = joined c.args.op (function_of d c.args.f) (function_of d c.args.g) in
-    record {
-      sound = c.join_whole.ensures.sound;
-      joins = yields_as subfunctions (diagram_meaning d) _ _ f f c.join_whole.result (keeps d.inputs) (held d.inputs d.len d.rows.now d.heads c.requires c.args.f c.if-self-f.false, held d.inputs d.len d.rows.now d.heads c.requires c.args.g c.if-self-g.false) (Same_refl d.inputs f) c.join_whole.ensures.yields;
-    }
+    yields_as subfunctions (diagram_meaning d) _ _ f f c.join_whole.result (keeps d.inputs) (held d.inputs d.len d.rows.now d.heads d.sound c.args.f c.if-self-f.false, held d.inputs d.len d.rows.now d.heads d.sound c.args.g c.if-self-g.false) (Same_refl d.inputs f) c.join_whole.ensures

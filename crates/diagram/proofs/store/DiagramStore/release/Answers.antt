@@ -1,5 +1,5 @@
 use Rattle.std.proofs.Common.{◌+◌, ◌-◌, ◌≤◌, refl, arith}
-use Rattle.diagram.proofs.Calls.{cut_sound, cut_meaning}
+use Rattle.diagram.proofs.Calls.{cut_meaning}
 use Rattle.diagram.proofs.Rows.{functions_length}
 use Rattle.diagram.proofs.store.DiagramStore.release.Goals as goal
 use Rattle.diagram.proofs.store.DiagramStore.release.Goals.{then-m-lt2-via-then-m-lt2, then-m-lt2-via-else-m-lt2+then-self-m}
@@ -18,14 +18,11 @@ returns-then-m-lt2 c =
       );
     }
 
-pub returns : goal.returns
-returns c =
+pub returns-clause-releases : goal.returns-clause-releases
+returns-clause-releases c =
     let d = c.args.self.now in
     let d' = c.cut.new.self in
     let m = c.args.m in
     let two : 2 ≤ m = c.if-m-lt2.false in
     let top : m ≤ d.len + 2 = c.if-self-m.false in
-    record {
-      sound = cut_sound d.inputs d.len d.rows.now d.heads c.requires (m - 2) (omega arith) d'.inputs d'.len d'.rows.now d'.heads c.cut.ensures.cut c.cut.ensures.linked;
-      releases = (two, omega (arith, functions_length d.inputs d.rows.now d.len), cut_meaning d.inputs d.len d.rows.now m d'.inputs d'.len d'.rows.now two top c.cut.ensures.cut);
-    }
+    (two, omega (arith, functions_length d.inputs d.rows.now d.len), cut_meaning d.inputs d.len d.rows.now m d'.inputs d'.len d'.rows.now two top c.cut.ensures)

@@ -3,8 +3,9 @@ use Rattle.diagram.proofs.Building.{new_sound}
 use Rattle.diagram.proofs.Rows.{functions_none}
 use Rattle.diagram.proofs.store.DiagramStore.start.Goals as goal
 
-pub returns : goal.returns
-returns c =
-    let rows = c.args.self.now.rows.now in
-    let n = c.args.inputs in
-    record { sound = new_sound n rows c.if-inputs-gt12.false c.requires.linked.bounded; starts = (omega (arith, c.if-inputs-eq0.false), c.if-inputs-gt12.false, cc (functions_none n rows)) }
+pub invariant_of-self : goal.invariant_of-self
+invariant_of-self c = record { sound = new_sound c.args.inputs c.args.self.now.rows.now c.if-inputs-gt12.false c.args.self.now.sound.linked.bounded }
+
+pub returns-clause-starts : goal.returns-clause-starts
+returns-clause-starts c =
+    (omega (arith, c.if-inputs-eq0.false), c.if-inputs-gt12.false, cc (functions_none c.args.inputs c.args.self.now.rows.now))
