@@ -8,7 +8,7 @@ use Rattle.stores.specs.Meaning.{Meaning, at, Gained, Overfull, Stands}
 use Rattle.diagram.specs.declared.row.Row.{Row}
 use Rattle.diagram.specs.declared.diagram.Diagram.{Diagram}
 use Rattle.diagram.specs.Chains.{row, HasParts, Placed}
-use Rattle.diagram.specs.Rows.{node, functions, top, SoundOf}
+use Rattle.diagram.specs.Rows.{node, functions, top}
 use Rattle.diagram.specs.Subfunctions.{subfunctions}
 
 -- a store of n inputs that uses the first len of its rows
@@ -17,10 +17,6 @@ meaning_of n len rows = record { inputs = n; most = 12; places = length rows; he
 
 abbrev pub diagram_meaning : Diagram → Meaning
 diagram_meaning d = meaning_of d.inputs d.len d.rows.now
-
--- what the type says of each store
-abbrev pub Sound : Diagram → Type 0
-Sound d = SoundOf d.inputs d.len d.rows.now d.heads
 
 -- where a row with these parts stands
 abbrev pub Standing : Diagram → ℕ → ℕ → ℕ → Option ℕ → Type 0

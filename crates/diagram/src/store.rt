@@ -1,13 +1,11 @@
 //! A diagram is a function store.
-ghost use Rattle.diagram.specs.Diagrams.{Sound, diagram_meaning};
+ghost use Rattle.diagram.specs.Diagrams.{diagram_meaning};
 ghost use Rattle.diagram.specs.Subfunctions.{subfunctions};
 
 use crate::diagram::Diagram;
 use stores::{Operation, Store, StoreFault};
 
 impl Store for Diagram<'_> {
-    ghost sound = { Sound };
-
     ghost meaning = { diagram_meaning };
 
     ghost keeping = { subfunctions };

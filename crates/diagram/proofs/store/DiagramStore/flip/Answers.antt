@@ -5,9 +5,9 @@ use Rattle.diagram.proofs.store.DiagramStore.flip.Goals as goal
 pub returns-then-self-f : goal.returns-then-self-f
 returns-then-self-f c =
     let d = c.args.self.now in
-    record { sound = c.requires; flips = (not_held d.inputs d.len d.rows.now d.heads c.requires c.args.f c.if-self-f.true, refl) }
+    record { flips = (not_held d.inputs d.len d.rows.now d.heads d.sound c.args.f c.if-self-f.true, refl) }
 
-pub returns-clause-flips : goal.returns-clause-flips
-returns-clause-flips c =
+pub returns : goal.returns
+returns c =
     let d = c.args.self.now in
-    answers_flip d.inputs d.len d.rows.now d.heads d.sound c.args.f c.join_whole.result _ c.if-self-f.false c.join_whole.ensures
+    record { flips = answers_flip d.inputs d.len d.rows.now d.heads d.sound c.args.f c.join_whole.result _ c.if-self-f.false c.join_whole.ensures }

@@ -13,18 +13,17 @@ pub returns-then-self-f : goal.returns-then-self-f
 returns-then-self-f c =
     let d = c.args.self.now in
     record {
-      sound = c.requires;
       joins = (
         (λ h. elim c.then-self-f.branch [
-          | then-self-f-via-then-self-f w ↦ not_held d.inputs d.len d.rows.now d.heads c.requires c.args.f w.if-self-f.true h.0
-          | then-self-f-via-else-self-f+then-self-g w ↦ not_held d.inputs d.len d.rows.now d.heads c.requires c.args.g w.if-self-g.true h.1
+          | then-self-f-via-then-self-f w ↦ not_held d.inputs d.len d.rows.now d.heads d.sound c.args.f w.if-self-f.true h.0
+          | then-self-f-via-else-self-f+then-self-g w ↦ not_held d.inputs d.len d.rows.now d.heads d.sound c.args.g w.if-self-g.true h.1
         ]),
         refl,
       );
     }
 
-pub returns-clause-joins : goal.returns-clause-joins
-returns-clause-joins c =
+pub returns : goal.returns
+returns c =
     let d = c.args.self.now in
     let f = joined c.args.op (function_of d c.args.f) (function_of d c.args.g) in
-    yields_as subfunctions (diagram_meaning d) _ _ f f c.join_whole.result (keeps d.inputs) (held d.inputs d.len d.rows.now d.heads d.sound c.args.f c.if-self-f.false, held d.inputs d.len d.rows.now d.heads d.sound c.args.g c.if-self-g.false) (Same_refl d.inputs f) c.join_whole.ensures
+    record { joins = yields_as subfunctions (diagram_meaning d) _ _ f f c.join_whole.result (keeps d.inputs) (held d.inputs d.len d.rows.now d.heads d.sound c.args.f c.if-self-f.false, held d.inputs d.len d.rows.now d.heads d.sound c.args.g c.if-self-g.false) (Same_refl d.inputs f) c.join_whole.ensures }

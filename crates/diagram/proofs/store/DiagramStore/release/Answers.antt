@@ -1,4 +1,4 @@
-use Rattle.std.proofs.Common.{◌+◌, ◌-◌, ◌≤◌, refl, arith}
+use Rattle.std.proofs.Common.{◌+◌, ◌≤◌, refl, arith}
 use Rattle.diagram.proofs.Calls.{cut_meaning}
 use Rattle.diagram.proofs.Rows.{functions_length}
 use Rattle.diagram.proofs.store.DiagramStore.release.Goals as goal
@@ -8,7 +8,6 @@ pub returns-then-m-lt2 : goal.returns-then-m-lt2
 returns-then-m-lt2 c =
     let d = c.args.self.now in
     record {
-      sound = c.requires;
       releases = (
         (λ h. elim c.then-m-lt2.branch [
           | then-m-lt2-via-then-m-lt2 w ↦ omega (arith, h.0, w.if-m-lt2.true)
@@ -18,11 +17,11 @@ returns-then-m-lt2 c =
       );
     }
 
-pub returns-clause-releases : goal.returns-clause-releases
-returns-clause-releases c =
+pub returns : goal.returns
+returns c =
     let d = c.args.self.now in
     let d' = c.cut.new.self in
     let m = c.args.m in
     let two : 2 ≤ m = c.if-m-lt2.false in
     let top : m ≤ d.len + 2 = c.if-self-m.false in
-    (two, omega (arith, functions_length d.inputs d.rows.now d.len), cut_meaning d.inputs d.len d.rows.now m d'.inputs d'.len d'.rows.now two top c.cut.ensures)
+    record { releases = (two, omega (arith, functions_length d.inputs d.rows.now d.len), cut_meaning d.inputs d.len d.rows.now m d'.inputs d'.len d'.rows.now two top c.cut.ensures) }
