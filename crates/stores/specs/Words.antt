@@ -1,5 +1,7 @@
 -- The word store: each function that is not constant is one word.
-use Rattle.std.specs.Prelude.{◌≡◌, ℕ, ◌^◌, ◌<◌, ◌≤◌, true, false, cond, List, [], ◌∷◌, map, length, take, Some, None, Option, slice_index}
+use Rattle.std.specs.Prelude.{◌≡◌, ℕ, ◌^◌, ◌<◌, ◌≤◌, true, false, cond, List, [], ◌∷◌, map, length, take, Some, None, Option, Ok, Err, Result, slice_index}
+use Rattle.stores.specs.declared.fault.StoreFault.{StoreFault}
+use Rattle.stores.specs.declared.fault.StoreFault.TheVariants.{Inputs, Places, Bounds}
 use Rattle.stores.specs.Functions.{Function, never, always, bit, points, constant}
 use Rattle.stores.specs.Meaning.{Meaning, Rule, has, different, Stands}
 
@@ -29,3 +31,10 @@ pub record SoundOf (n len : ℕ) (ws : List ℕ) : Type 0 where
 abbrev pub Found : Meaning → Function → Option ℕ → Type 0
 Found m f (Some h) = Stands m h f
 Found m f None = has m.inputs f m.held ≡ false
+
+-- the word of a handle
+abbrev pub Reads : Meaning → ℕ → Result ℕ StoreFault → Type 0
+Reads m h (Ok w) = (w < 2 ^ points m.inputs) × Stands m h (of_word w)
+Reads m h (Err Inputs) = ⊥
+Reads m h (Err Places) = ⊥
+Reads m h (Err Bounds) = h < length m.held → ⊥

@@ -1,8 +1,8 @@
 //! The word store.
-ghost use Rattle.std.specs.Prelude.{◌≡◌, ◌+◌, ◌^◌, ◌<◌, min, [], ◌∷◌, length};
-ghost use Rattle.stores.specs.Functions.{points, Same};
-ghost use Rattle.stores.specs.Meaning.{Yields, at, empty};
-ghost use Rattle.stores.specs.Words.{of_word, alone, SoundOf, Found};
+ghost use Rattle.std.specs.Prelude.{◌≡◌, ◌+◌, ◌^◌, ◌<◌, min, [], ◌∷◌, length, position, ◌==◌};
+ghost use Rattle.stores.specs.Functions.{points};
+ghost use Rattle.stores.specs.Meaning.{Yields, empty};
+ghost use Rattle.stores.specs.Words.{of_word, alone, SoundOf, Found, Reads};
 
 mod bits;
 
@@ -28,28 +28,25 @@ impl<'a> Words<'a> {
     pub fn new(words: &'a mut [u64]) -> Words<'a>
         ensures { words_meaning result ≡ empty 5 (min 4096 (length words.old)) }
     {
-        let count = if words.len() < 4096 {
-            words.len()
-        } else {
-            4096
-        };
+        let count = words.len().min(4096);
         Words {
-            words: &mut words[0..count],
+            words: &mut words[..count],
             len: 0,
             inputs: 0,
         }
     }
 
-    // The word of a handle.
-    fn word(&self, h: usize) -> u64
-        requires held { h < self.now.len + 2 }
-        ensures fits { result < 2 ^ points self.now.inputs }
-        ensures means { Same self.now.inputs (at (words_meaning self.now).held h) (of_word result) }
+    // The word of a handle, which is refused with 15 where it is not held.
+    fn word(&self, h: usize) -> Result<u64, StoreFault>
+        ensures { Reads (words_meaning self.now) h result }
     {
         match h {
-            0 => 0,
-            1 => full(self.inputs),
-            _ => self.words[h - 2],
+            0 => Ok(0),
+            1 => Ok(full(self.inputs)),
+            _ => self.words[..self.len]
+                .get(h - 2)
+                .copied()
+                .ok_or(StoreFault::Bounds),
         }
     }
 
@@ -64,12 +61,7 @@ impl<'a> Words<'a> {
         if w == full(self.inputs) {
             return Some(1);
         }
-        for i in 0..self.len {
-            if self.words[i] == w {
-                return Some(i + 2);
-            }
-        }
-        None
+        place(&self.words[..self.len], w).map(|i| i + 2)
     }
 
     // Yields a word's function.
@@ -87,6 +79,13 @@ impl<'a> Words<'a> {
         self.len += 1;
         Ok(self.len + 1)
     }
+}
+
+// The first place of a word among words.
+fn place(words: &[u64], w: u64) -> Option<usize>
+    ensures { result ≡ position (λ x. x == w) words.now }
+{
+    words.iter().position(|x| *x == w)
 }
 
 impl Store for Words<'_> {
@@ -114,37 +113,29 @@ impl Store for Words<'_> {
     }
 
     fn join(&mut self, op: Operation, f: usize, g: usize) -> Result<usize, StoreFault> {
-        if self.len + 2 <= f || self.len + 2 <= g {
-            return Err(StoreFault::Bounds);
-        }
-        let x = self.word(f);
-        let y = self.word(g);
+        let x = self.word(f)?;
+        let y = self.word(g)?;
         let w = combined(op, x, y);
         self.keep(w)
     }
 
     fn flip(&mut self, f: usize) -> Result<usize, StoreFault> {
-        if self.len + 2 <= f {
-            return Err(StoreFault::Bounds);
-        }
-        let w = self.word(f) ^ full(self.inputs);
+        let w = self.word(f)? ^ full(self.inputs);
         self.keep(w)
     }
 
     fn fix(&mut self, f: usize, bit: bool) -> Result<usize, StoreFault> {
-        if self.len + 2 <= f {
-            return Err(StoreFault::Bounds);
-        }
-        let w = repeated(self.inputs, self.word(f), bit);
+        let w = repeated(self.inputs, self.word(f)?, bit);
         self.keep(w)
     }
 
     fn value(&self, f: usize, e: bool, a: usize) -> Result<bool, StoreFault> {
-        if self.len + 2 <= f || 1 << self.inputs <= a {
+        let w = self.word(f)?;
+        if 1 << self.inputs <= a {
             return Err(StoreFault::Bounds);
         }
         let p = if e { (1 << self.inputs) + a } else { a };
-        Ok((self.word(f) >> p) % 2 == 1)
+        Ok((w >> p) % 2 == 1)
     }
 
     fn length(&self) -> usize {

@@ -4,4 +4,4 @@ use Rattle.stores.proofs.words.WordsStore.fix.Goals as goal
 pub returns : goal.returns
 returns c =
     let v = c.args.self.now in
-    record { fixes = answers_fix v.inputs v.len v.words.now v.sound c.args.f c.word.result c.repeated-w.result c.args.bit c.keep.result _ c.if-self-f.false c.word.ensures.means c.repeated-w.ensures.means c.keep.ensures.makes }
+    record { fixes = answers_fix v.inputs v.len v.words.now v.sound c.args.f c.in_ok-word.field-0 c.repeated-w.result c.args.bit c.keep.result _ c.in_ok-word.ensures.1 c.repeated-w.ensures.means c.keep.ensures.makes }

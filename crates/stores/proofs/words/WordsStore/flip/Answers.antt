@@ -7,9 +7,9 @@ use Rattle.stores.proofs.words.WordsStore.flip.Goals as goal
 pub keep-requires : goal.keep-requires
 keep-requires c =
     let k = points c.args.self.now.inputs in
-    record { fits = xor_lt k c.word.result c.full.result c.word.ensures.fits (rw c.full.ensures (ones_lt k)) }
+    record { fits = xor_lt k c.in_ok-w.field-0 c.full.result c.in_ok-w.ensures.0 (rw c.full.ensures (ones_lt k)) }
 
 pub returns : goal.returns
 returns c =
     let v = c.args.self.now in
-    record { flips = answers_flip v.inputs v.len v.words.now v.sound c.args.f c.word.result c.full.result c.keep.result _ c.if-self-f.false c.full.ensures c.word.ensures.means c.keep.ensures.makes }
+    record { flips = answers_flip v.inputs v.len v.words.now v.sound c.args.f c.in_ok-w.field-0 c.full.result c.keep.result _ c.full.ensures c.in_ok-w.ensures.1 c.keep.ensures.makes }
