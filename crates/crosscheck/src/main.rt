@@ -1,12 +1,12 @@
 //! Many designs through the libraries. What they answer is compared with a plain evaluation of truth tables.
 #![tactic(auto)]
 
-mod calls;
 #[cfg(test)]
 mod examples;
+mod tables;
 
 use anyhow::anyhow;
-use circuits::Design;
+use circuits::{Counts, Design};
 use std::alloc::{AllocError, Global};
 use std::{fs, io};
 use texts::{ReadFault, Reader, Text, TextFault};
@@ -15,38 +15,18 @@ use texts::{ReadFault, Reader, Text, TextFault};
 fn find(rt: &HostRuntime, path: &str) -> io::Result<Option<Vec<u8>>> {
     match fs::read(rt, path) {
         Ok(bytes) => Ok(Some(bytes)),
-        Err(error) => {
-            if error.kind() == io::ErrorKind::NotFound {
-                Ok(None)
-            } else {
-                Err(error)
-            }
-        }
+        Err(error) if error.kind() == io::ErrorKind::NotFound => Ok(None),
+        Err(error) => Err(error),
     }
 }
 
-// What a line carries, assignment by assignment.
-fn line_bits(heap: Global, design: &Design, line: usize) -> Result<String, AllocError> {
+// The bits that are told, assignment by assignment, up to the first of which none is.
+fn bits<F: Fn(usize) -> Option<bool>>(heap: Global, bit_at: F) -> Result<String, AllocError>
+    requires { F.IsAlwaysCallable bit_at }
+{
     let mut bits = String::new(heap);
-    for assignment in 0..16 {
-        match design.carry(line, assignment) {
-            Some(true) => bits.push('1')?,
-            Some(false) => bits.push('0')?,
-            None => break,
-        }
-    }
-    Ok(bits)
-}
-
-// What an output gives, assignment by assignment.
-fn output_bits(heap: Global, design: &Design, output: usize) -> Result<String, AllocError> {
-    let mut bits = String::new(heap);
-    for assignment in 0..16 {
-        match design.output(output, assignment) {
-            Some(true) => bits.push('1')?,
-            Some(false) => bits.push('0')?,
-            None => break,
-        }
+    for bit in (0..16).map_while(bit_at) {
+        bits.push(if bit { '1' } else { '0' })?;
     }
     Ok(bits)
 }
@@ -60,7 +40,7 @@ fn print_lines(rt: &HostRuntime, design: &Design) -> anyhow::Result<()> {
         let Some(number) = design.line(place) else {
             return Err(anyhow!("a place without a line"));
         };
-        let bits = line_bits(rt.alloc(), design, line)?;
+        let bits = bits(rt.alloc(), |assignment| design.carry(line, assignment))?;
         println!(rt; "line,{number},{bits}")?;
     }
     Ok(())
@@ -72,7 +52,7 @@ fn print_outputs(rt: &HostRuntime, design: &Design) -> anyhow::Result<()> {
         let Some(met) = design.meets(output) else {
             break;
         };
-        let bits = output_bits(rt.alloc(), design, output)?;
+        let bits = bits(rt.alloc(), |assignment| design.output(output, assignment))?;
         let word = if met { "met" } else { "missed" };
         println!(rt; "out,{output},{bits},{word}")?;
     }
@@ -80,10 +60,11 @@ fn print_outputs(rt: &HostRuntime, design: &Design) -> anyhow::Result<()> {
 }
 
 fn print_design(rt: &HostRuntime, design: &Design) -> anyhow::Result<()> {
-    let counts = design.counts();
-    let inputs = counts.inputs;
-    let gates = counts.gates;
-    let outputs = counts.outputs;
+    let Counts {
+        inputs,
+        gates,
+        outputs,
+    } = design.counts();
     let misses = design.misses();
     println!(rt; "job,{inputs},{gates},{outputs},{misses}")?;
     if inputs <= 4 {
@@ -143,7 +124,7 @@ fn print_calls(rt: &HostRuntime) -> anyhow::Result<()> {
             return Err(anyhow!("a table is missing"));
         };
         println!(rt; "words,{places}")?;
-        calls::run_table(rt, places, table.as_str())?;
+        tables::run_table(rt, places, table.as_str())?;
     }
     Ok(())
 }

@@ -9,8 +9,6 @@ pub(crate) struct Counting<S: Store> {
 }
 
 impl<S: Store> Store for Counting<S> {
-    ghost sound = { λ s. S.Store.sound s.below };
-
     ghost meaning = { λ s. S.Store.meaning s.below };
 
     ghost keeping = { S.Store.keeping };

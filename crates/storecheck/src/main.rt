@@ -2,8 +2,8 @@
 //! memos over them answer with the bare stores.
 #![tactic(auto)]
 
-mod calls;
 mod counting;
+mod tables;
 
 use counting::Counting;
 use diagram::{Diagram, Row};
@@ -19,7 +19,7 @@ fn print_words(rt: &HostRuntime, places: usize) -> anyhow::Result<()> {
     println!(rt; "words,{places}")?;
     let mut words = vec![in heap; 0u64; places]?;
     let mut bare = Words::new(words.as_mut_slice());
-    let told = calls::run_table(heap, &mut bare, table.as_str())?;
+    let told = tables::run_table(heap, &mut bare, table.as_str())?;
     print!(rt; "{told}")?;
     let mut more_words = vec![in heap; 0u64; places]?;
     let below = Counting {
@@ -27,7 +27,7 @@ fn print_words(rt: &HostRuntime, places: usize) -> anyhow::Result<()> {
         calls: 0,
     };
     let mut memo = Memo::new(below);
-    let same = calls::run_table(heap, &mut memo, table.as_str())? == told;
+    let same = tables::run_table(heap, &mut memo, table.as_str())? == told;
     let reached = memo.below().calls;
     println!(rt; "memo,{same},{reached}")?;
     Ok(())
@@ -41,14 +41,14 @@ fn print_diagram(rt: &HostRuntime, case: usize, places: usize) -> anyhow::Result
     println!(rt; "diagram,{places}")?;
     let mut rows = vec![in heap; Row::BLANK; places]?;
     let mut bare = Diagram::new(rows.as_mut_slice());
-    let told = calls::run_table(heap, &mut bare, table.as_str())?;
+    let told = tables::run_table(heap, &mut bare, table.as_str())?;
     print!(rt; "{told}")?;
     let mut more_rows = vec![in heap; Row::BLANK; places]?;
     let mut memo = Memo::new(Diagram::new(more_rows.as_mut_slice()));
-    let one = calls::run_table(heap, &mut memo, table.as_str())? == told;
+    let one = tables::run_table(heap, &mut memo, table.as_str())? == told;
     let mut other_rows = vec![in heap; Row::BLANK; places]?;
     let mut pile = Memo::new(Memo::new(Diagram::new(other_rows.as_mut_slice())));
-    let two = calls::run_table(heap, &mut pile, table.as_str())? == told;
+    let two = tables::run_table(heap, &mut pile, table.as_str())? == told;
     println!(rt; "memo,{one},{two}")?;
     Ok(())
 }
@@ -60,7 +60,7 @@ fn main(rt: HostRuntime) -> anyhow::Result<()> {
     // the number of rows of each table
     let sizes = fs::read_to_string(&rt, "diagrams.rows")?;
     for (case, size) in sizes.as_str().lines().enumerate() {
-        print_diagram(&rt, case, calls::number(Some(size)))?;
+        print_diagram(&rt, case, size.parse::<usize>()?)?;
     }
     Ok(())
 }
