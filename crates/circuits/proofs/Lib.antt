@@ -2,7 +2,6 @@ mod Adding
 mod Agreeing
 mod Binding
 mod Faults
-mod Finding
 mod Fronts
 mod Naming
 mod Numbering

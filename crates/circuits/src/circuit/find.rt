@@ -21,29 +21,16 @@ impl Circuit {
         requires { stem_count (net self.now) < 2 ^ 64 }
         ensures { result ≡ position 0 (name_bytes name.now) (stem_names (net self.now)) }
     {
-        for (i, input) in self.inputs.iter().enumerate() {
-            if *name == *input {
-                return Some(i);
-            }
-        }
-        let inputs = self.inputs.len();
-        for (k, gate) in self.gates.iter().enumerate() {
-            if *name == gate.name {
-                return Some(inputs + k);
-            }
-        }
-        None
+        self.inputs
+            .iter()
+            .chain(self.gates.iter().map(|gate| &gate.name))
+            .position(|taken| name == taken)
     }
 
     // The number of the output of this name, if there is one.
     pub(crate) fn find_output(&self, name: &Name) -> Option<usize>
         ensures { result ≡ position 0 (name_bytes name.now) (output_names (net self.now)) }
     {
-        for (i, output) in self.outputs.iter().enumerate() {
-            if *name == output.name {
-                return Some(i);
-            }
-        }
-        None
+        self.outputs.iter().position(|output| *name == output.name)
     }
 }
