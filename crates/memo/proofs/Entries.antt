@@ -1,17 +1,15 @@
 -- What keeps an entry right, and what a right entry answers.
-use Rattle.std.proofs.Common.{◌≡◌, ℕ, ◌<◌, ◌≤◌, true, false, not, eqb, List, [], ◌∷◌, ◌++◌, length, get_or, take, drop, Ok, Err, Result, sym, refl, ap, ◌∙◌, subst, inl, inr, append-nil, arith, take-append-drop, length-take, get_or-take}
+use Rattle.std.proofs.Common.{◌≡◌, ℕ, ◌<◌, ◌≤◌, true, false, not, List, [], ◌∷◌, ◌++◌, length, get_or, take, drop, Ok, Err, Result, sym, refl, ap, ◌∙◌, subst, inl, inr, append-nil, arith, take-append-drop, length-take, get_or-take}
 use Rattle.std.proofs.lemmas.List.{take-append-le, take-take, take_all}
 use Rattle.std.proofs.lemmas.Bool.{both_ways, or_left, or_right, or_cases, or_parts, or_from, and_parts, not-true}
 use Rattle.stores.specs.declared.fault.StoreFault.{StoreFault}
 use Rattle.stores.specs.declared.fault.StoreFault.TheVariants.{Inputs, Places, Bounds}
-use Rattle.stores.specs.declared.operation.Operation.TheVariants.{And as joins_and, Or as joins_or, Xor as joins_xor}
 use Rattle.stores.specs.Functions.{Function, never, same, variable, complement, joined, fixed}
 use Rattle.stores.specs.Meaning.{Meaning, Rule, Lawful, Grown, Gained, Stands, at, has, different, kept, cut}
 use Rattle.stores.proofs.Sames.{has_append, same_sym, same_refl}
 use Rattle.stores.proofs.Laws.{held_already, gained_fits, grown_longer, stands_once, kept_one}
-use Rattle.memo.specs.declared.call.Action.{Action}
-use Rattle.memo.specs.declared.call.Action.TheVariants.{And, Or, Xor, Flip, Fix, Variable}
 use Rattle.memo.specs.declared.call.Call.{Call}
+use Rattle.memo.specs.declared.call.Call.TheVariants.{Variable, Join, Flip, Fix}
 use Rattle.memo.specs.declared.call.Entry.{Entry}
 use Rattle.memo.specs.Calls.{asked, Fits, Asks}
 use Rattle.memo.specs.Memos.{Right}
@@ -25,34 +23,27 @@ module _ (m m' : Meaning) (k : ℕ) (inputs : m'.inputs ≡ m.inputs) (first : t
   same_at h l = at_take k m'.held m.held first h l
 
   -- ask the same
-  pub asked_same : (a : Action) (f g : ℕ) → Fits m k a f g → asked m' a f g ≡ asked m a f g
-  asked_same And f g (l, r) = ap (λ x. joined joins_and x (at m'.held g)) (same_at f l) ∙ ap (joined joins_and (at m.held f)) (same_at g r)
-  asked_same Or f g (l, r) = ap (λ x. joined joins_or x (at m'.held g)) (same_at f l) ∙ ap (joined joins_or (at m.held f)) (same_at g r)
-  asked_same Xor f g (l, r) = ap (λ x. joined joins_xor x (at m'.held g)) (same_at f l) ∙ ap (joined joins_xor (at m.held f)) (same_at g r)
-  asked_same Flip f g l = ap complement (same_at f l)
-  asked_same Fix f g l = ap (λ n. fixed n (at m'.held f) (eqb g 1)) inputs ∙ ap (λ x. fixed m.inputs x (eqb g 1)) (same_at f l)
-  asked_same Variable f g l = ap (λ n. variable n f) inputs
+  pub asked_same : (c : Call) → Fits m k c → asked m' c ≡ asked m c
+  asked_same (Join op f g) (l, r) = ap (λ x. joined op x (at m'.held g)) (same_at f l) ∙ ap (joined op (at m.held f)) (same_at g r)
+  asked_same (Flip f) l = ap complement (same_at f l)
+  asked_same (Fix f b) l = ap (λ n. fixed n (at m'.held f) b) inputs ∙ ap (λ x. fixed m.inputs x b) (same_at f l)
+  asked_same (Variable v) l = ap (λ n. variable n v) inputs
 
-  fits_same : (a : Action) (f g : ℕ) → Fits m k a f g → Fits m' k a f g
-  fits_same And f g l = l
-  fits_same Or f g l = l
-  fits_same Xor f g l = l
-  fits_same Flip f g l = l
-  fits_same Fix f g l = l
-  fits_same Variable f g l = subst (λ n. f ≤ n) (sym inputs) l
+fits_more : (m m' : Meaning) (k k' : ℕ) → m'.inputs ≡ m.inputs → k ≤ k' → (c : Call) → Fits m k c → Fits m' k' c
+fits_more m m' k k' i l (Join op f g) (x, y) = (omega arith, omega arith)
+fits_more m m' k k' i l (Flip f) x = omega arith
+fits_more m m' k k' i l (Fix f b) x = omega arith
+fits_more m m' k k' i l (Variable v) x = omega arith
 
 -- An entry stays right while the functions of its time are held.
 pub right_moved : (rule : Rule) (m m' : Meaning) (e : Entry) → m'.inputs ≡ m.inputs → take e.length m'.held ≡ take e.length m.held → e.length ≤ length m'.held → Right rule m e → Right rule m' e
 right_moved rule m m' e inputs first within r =
     let k = e.length in
-    let a = e.call.action in
-    let f = e.call.first in
-    let g = e.call.second in
-    let same : asked m' a f g ≡ asked m a f g = asked_same m m' k inputs first a f g r.fits in
+    let same : asked m' e.call ≡ asked m e.call = asked_same m m' k inputs first e.call r.fits in
     let here : at m'.held e.answer ≡ at m.held e.answer = at_take k m'.held m.held first e.answer r.held in
     record {
       within = within;
-      fits = fits_same m m' k inputs first a f g r.fits;
+      fits = fits_more m m' k k inputs (omega arith) e.call r.fits;
       held = r.held;
       answers = rw (same, inputs, here) r.answers;
       keeps = rw (same, inputs, first) r.keeps;
@@ -72,35 +63,24 @@ right_cut rule m k e l r =
     let w = r.within in
     right_moved rule m (cut m k) e refl (take-take e.length k m.held l) (omega (arith, length-take k m.held)) r
 
-fits_more : (m m' : Meaning) (k k' : ℕ) → m'.inputs ≡ m.inputs → k ≤ k' → (a : Action) (f g : ℕ) → Fits m k a f g → Fits m' k' a f g
-fits_more m m' k k' i l And f g (x, y) = (omega arith, omega arith)
-fits_more m m' k k' i l Or f g (x, y) = (omega arith, omega arith)
-fits_more m m' k k' i l Xor f g (x, y) = (omega arith, omega arith)
-fits_more m m' k k' i l Flip f g x = omega arith
-fits_more m m' k k' i l Fix f g x = omega arith
-fits_more m m' k k' i l Variable f g x = omega arith
-
 has_take : (n k : ℕ) (g : Function) (L : List Function) → has n g (take k L) ≡ true → has n g L ≡ true
 has_take n k g L e = subst (λ x. has n g x ≡ true) (take-append-drop k L) (has_append n g (take k L) (drop k L) ∙ or_left _ _ e)
 
 -- A call that was answered makes a right entry.
-pub right_new : (rule : Rule) (m m' : Meaning) (call : Call) (h : ℕ) → Asks rule m call (Ok h) m' → Right rule m' (record { call = call; answer = h; length = length m'.held })
-right_new rule m m' call h (fits, gained, stands) =
-    let a = call.action in
-    let f = call.first in
-    let g = call.second in
+pub right_new : (rule : Rule) (m m' : Meaning) (call : Call) (h n : ℕ) → n ≡ length m'.held → Asks rule m call (Ok h) m' → Right rule m' (record { call = call; answer = h; length = n })
+right_new rule m m' call h n e (fits, gained, stands) =
     let grown = gained.grown in
     let i = grown.inputs_kept in
-    let same : asked m' a f g ≡ asked m a f g = asked_same m m' (length m.held) i (grown_first m m' (length m.held) grown (omega arith)) a f g fits in
-    let all : take (length m'.held) m'.held ≡ m'.held = take_all (length m'.held) m'.held (omega arith) in
+    let same : asked m' call ≡ asked m call = asked_same m m' (length m.held) i (grown_first m m' (length m.held) grown (omega arith)) call fits in
+    let all : take n m'.held ≡ m'.held = take_all n m'.held (omega arith) in
     record {
       within = omega arith;
-      fits = fits_more m m' (length m.held) (length m'.held) i (grown_longer m m' grown) a f g fits;
-      held = stands.within;
+      fits = fits_more m m' (length m.held) n i (omega (arith, grown_longer m m' grown)) call fits;
+      held = omega (arith, stands.within);
       answers = rw same stands.means;
-      keeps = λ x e.
-          let e' : has m.inputs x (rule m.inputs (asked m a f g)) ≡ true = rw (same, i) at e in
-          let there : has m.inputs x m'.held ≡ true = gained.content x ∙ (has_append m.inputs x m.held (kept rule m.inputs (asked m a f g ∷ [])) ∙ or_right (has m.inputs x m.held) _ (kept_one rule m.inputs (asked m a f g) x ∙ e')) in
+      keeps = λ x w.
+          let e' : has m.inputs x (rule m.inputs (asked m call)) ≡ true = rw (same, i) at w in
+          let there : has m.inputs x m'.held ≡ true = gained.content x ∙ (has_append m.inputs x m.held (kept rule m.inputs (asked m call ∷ [])) ∙ or_right (has m.inputs x m.held) _ (kept_one rule m.inputs (asked m call) x ∙ e')) in
           rw (all, i) there;
     }
 
@@ -109,8 +89,8 @@ pub recalled_asks : (rule : Rule) (m : Meaning) (e : Entry) → Lawful rule m �
 recalled_asks rule m e w r =
     let l = r.within in
     let k = r.held in (
-      fits_more m m e.length (length m.held) refl l e.call.action e.call.first e.call.second r.fits,
-      held_already rule m (asked m e.call.action e.call.first e.call.second) w.good (λ g x. has_take m.inputs e.length g m.held (r.keeps g x)),
+      fits_more m m e.length (length m.held) refl l e.call r.fits,
+      held_already rule m (asked m e.call) w.good (λ g x. has_take m.inputs e.length g m.held (r.keeps g x)),
       record { within = omega arith; means = r.answers },
     )
 
@@ -147,11 +127,11 @@ nothing_gained rule m m' f all gained = go gained.grown.added gained.grown.longe
 -- Whatever a store may answer to a call with a right entry is the entry's answer.
 pub only_answer : (rule : Rule) (m : Meaning) (e : Entry) → Lawful rule m → Right rule m e → (s : Result ℕ StoreFault) (n : Meaning) → Asks rule m e.call s n → (s ≡ Ok e.answer) × (n ≡ m)
 only_answer rule m e w r (Ok h) n (fits, gained, stands) =
-    let f = asked m e.call.action e.call.first e.call.second in
+    let f = asked m e.call in
     let same : n ≡ m = nothing_gained rule m n f (λ g x. has_take m.inputs e.length g m.held (r.keeps g x)) gained in
     let here : Stands m h f = subst (λ x. Stands x h f) same stands in
     (ap Ok (stands_once m h e.answer f w.good here (recalled_asks rule m e w r).2), same)
 only_answer rule m e w r (Err Inputs) n y = absurd y
 only_answer rule m e w r (Err Places) n (fits, over, back) =
-    absurd (gained_fits rule m m (asked m e.call.action e.call.first e.call.second ∷ []) (recalled_asks rule m e w r).1 over)
+    absurd (gained_fits rule m m (asked m e.call ∷ []) (recalled_asks rule m e w r).1 over)
 only_answer rule m e w r (Err Bounds) n (out, back) = absurd (out (recalled_asks rule m e w r).0)

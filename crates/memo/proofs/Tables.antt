@@ -1,5 +1,5 @@
 -- What keeps the entries of a memo right, and what its calls make of them.
-use Rattle.std.proofs.Common.{◌≡◌, ℕ, ◌<◌, ◌≤◌, ltb, List, [], ◌∷◌, length, set, replicate, IsErrAnd, Some, None, Ok, Err, Option, Result, sym, refl, ap, ◌∙◌, subst, inl, inr, arith, length-set, get_or-set_other, get_or-set_same}
+use Rattle.std.proofs.Common.{◌≡◌, ℕ, ◌<◌, ◌≤◌, ltb, List, [], ◌∷◌, length, set, replicate, Some, None, Ok, Err, Option, Result, sym, refl, ap, ◌∙◌, subst, inl, inr, arith, length-set, get_or-set_other, get_or-set_same}
 use lib.ListN.{length-replicate}
 use Rattle.std.proofs.lemmas.List.{get_or-replicate, get_or_past}
 use Rattle.std.proofs.lemmas.Bool.{cases_eq, cases_lt, cases_Bool, ltb-false}
@@ -12,8 +12,8 @@ use Rattle.stores.proofs.Laws.{good_gained, good_cut, yields_grown}
 use Rattle.memo.specs.declared.call.Call.{Call}
 use Rattle.memo.specs.declared.call.Entry.{Entry}
 use Rattle.memo.specs.Calls.{place_of, Asks}
-use Rattle.memo.specs.Memos.{Right, SoundMemo, Remembered, Forgotten, Memoized, Forgets, entry_at, left_of}
-use Rattle.memo.proofs.Entries.{right_grown, right_cut, right_new, recalled_asks, only_answer}
+use Rattle.memo.specs.Memos.{Right, SoundMemo, Remembered, Memoized, Forgets, entry_at, left_of}
+use Rattle.memo.proofs.Entries.{right_grown, right_cut, recalled_asks, only_answer}
 
 -- A store stays lawful.
 lawful_after : (rule : Rule) (m m' : Meaning) (call : Call) (r : Result ℕ StoreFault) → Lawful rule m → Asks rule m call r m' → Lawful rule m'
@@ -113,45 +113,3 @@ module _ {B : Type 0} (rule : Rule) (m : Meaning) (call : Call) (b : B) (es : Li
             let p = q.0 in
             let o = r.0 in
             cc
-
-  -- a call that is not
-  module _ (f : Forgotten es call) (m' : Meaning) (b' : B) where
-    pub new_memoized : (h : ℕ) → Memoized rule m call b es (Ok h) m' b' (set es (place_of call) (Some (record { call = call; answer = h; length = length m'.held })))
-    new_memoized h = record {
-      recalled = λ x q. absurd (f x q);
-      as_below = λ x q. absurd (f x q);
-      newest = λ g k q. let same : h ≡ k = cc in rw same;
-      refused = λ g q. let z : ◌≡◌ {A = ℕ} 0 1 = cc in
-          let out : ⊥ = omega arith in
-          absurd out;
-    }
-
-    pub refused_memoized : (r : Result ℕ StoreFault) (fault : StoreFault) → IsErrAnd r (λ y. y ≡ fault) → Memoized rule m call b es r m' b' es
-    refused_memoized (Ok h) fault e = absurd e
-    refused_memoized (Err g) fault e = record {
-      recalled = λ x q. absurd (f x q);
-      as_below = λ x q. absurd (f x q);
-      newest = λ o k q. let z : ◌≡◌ {A = ℕ} 0 1 = cc in
-          let out : ⊥ = omega arith in
-          absurd out;
-      refused = λ k q. refl;
-    }
-
-    pub new_sound : place_of call < 64 → (h : ℕ) → Asks rule m call (Ok h) m' → SoundMemo rule m' (set es (place_of call) (Some (record { call = call; answer = h; length = length m'.held })))
-    new_sound l h y = sound_more rule m' es (place_of call) (record { call = call; answer = h; length = length m'.held }) l (right_new rule m m' call h y) (sound_after rule m m' es call (Ok h) y s)
-
--- The exit of a `?` returns the fault that came.
-pub asks_exit : (rule : Rule) (m m' : Meaning) (call : Call) (r : Result ℕ StoreFault) (fault : StoreFault) → IsErrAnd r (λ y. y ≡ fault) → Asks rule m call (Err fault) m' → Asks rule m call r m'
-asks_exit rule m m' call (Ok h) fault e y = absurd e
-asks_exit rule m m' call (Err g) fault e y = subst (λ x. Asks rule m call (Err x) m') (sym e) y
-
-pub place_below : (call : Call) → place_of call < 64
-unfolding place_of
-place_below call = omega arith
-
--- what a memo leaves once the store below granted a call and its answer was remembered
-pub granted : {B : Type 0} (sound : B → Type 0) (meaning : B → Meaning) (rule : Rule) (call : Call) (b b' b'' : B) (es es'' : List (Option Entry)) (h : ℕ) → SoundMemo rule (meaning b) es → Forgotten es call → sound b' → Asks rule (meaning b) call (Ok h) (meaning b') → b'' ≡ b' → es'' ≡ set es (place_of call) (Some (record { call = call; answer = h; length = length (meaning b').held })) → (sound b'' × SoundMemo rule (meaning b'') es'') × Asks rule (meaning b) call (Ok h) (meaning b'') × Memoized rule (meaning b) call b es (Ok h) (meaning b'') b'' es''
-granted sound meaning rule call b b' b'' es es'' h s f t y i j =
-    subst (λ x. (sound x × SoundMemo rule (meaning x) es'') × Asks rule (meaning b) call (Ok h) (meaning x) × Memoized rule (meaning b) call b es (Ok h) (meaning x) x es'') (sym i)
-    (subst (λ x. (sound b' × SoundMemo rule (meaning b') x) × Asks rule (meaning b) call (Ok h) (meaning b') × Memoized rule (meaning b) call b es (Ok h) (meaning b') b' x) (sym j)
-    ((t, new_sound rule (meaning b) call b es s f (meaning b') b' (place_below call) h y), y, new_memoized rule (meaning b) call b es s f (meaning b') b' h))

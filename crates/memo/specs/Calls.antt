@@ -1,63 +1,42 @@
 -- The calls that a memo remembers.
-use Rattle.std.specs.Prelude.{ℕ, ◌+◌, ◌*◌, ◌%◌, ◌<◌, ◌≤◌, Bool, cond, [], ◌∷◌, length, Result, ◌==◌}
+use Rattle.std.specs.Prelude.{ℕ, ◌+◌, ◌*◌, ◌%◌, ◌<◌, ◌≤◌, cond, [], ◌∷◌, length, Result}
 use Rattle.stores.specs.declared.operation.Operation.{Operation}
-use Rattle.stores.specs.declared.operation.Operation.TheVariants.{And as joins_and, Or as joins_or, Xor as joins_xor}
+use Rattle.stores.specs.declared.operation.Operation.TheVariants.{And, Or, Xor}
 use Rattle.stores.specs.Functions.{Function, variable, complement, joined, fixed}
 use Rattle.stores.specs.declared.fault.StoreFault.{StoreFault}
 use Rattle.stores.specs.Meaning.{Meaning, Rule, at, Yields}
-use Rattle.memo.specs.declared.call.Action.{Action}
-use Rattle.memo.specs.declared.call.Action.TheVariants.{And, Or, Xor, Flip, Fix, Variable}
 use Rattle.memo.specs.declared.call.Call.{Call}
+use Rattle.memo.specs.declared.call.Call.TheVariants.{Variable, Join, Flip, Fix}
 
-abbrev pub number_of : Action → ℕ
+abbrev pub number_of : Operation → ℕ
 number_of And = 0
 number_of Or = 1
 number_of Xor = 2
-number_of Flip = 3
-number_of Fix = 4
-number_of Variable = 5
 
-abbrev pub action_of : Operation → Action
-action_of joins_and = And
-action_of joins_or = Or
-action_of joins_xor = Xor
+-- where a call is remembered, by its two numbers and the number of what it does; a fix has the bit as its second number, and a flip and a variable have 0
+abbrev pub place_at : ℕ → ℕ → ℕ → ℕ
+place_at first second number = (first % 64 + 3 * (second % 64) + number) % 64
 
--- where a call is remembered
 unfoldable pub place_of : Call → ℕ
-place_of c = (c.first % 64 + 3 * (c.second % 64) + number_of c.action) % 64
+place_of (Join op f g) = place_at f g (number_of op)
+place_of (Flip f) = place_at f 0 3
+place_of (Fix f b) = place_at f (cond b 1 0) 4
+place_of (Variable v) = place_at v 0 5
 
 -- the function that is asked for, of a store with this meaning
-abbrev pub asked : Meaning → Action → ℕ → ℕ → Function
-asked m And f g = joined joins_and (at m.held f) (at m.held g)
-asked m Or f g = joined joins_or (at m.held f) (at m.held g)
-asked m Xor f g = joined joins_xor (at m.held f) (at m.held g)
-asked m Flip f g = complement (at m.held f)
-asked m Fix f b = fixed m.inputs (at m.held f) (b == 1)
-asked m Variable v g = variable m.inputs v
+abbrev pub asked : Meaning → Call → Function
+asked m (Join op f g) = joined op (at m.held f) (at m.held g)
+asked m (Flip f) = complement (at m.held f)
+asked m (Fix f b) = fixed m.inputs (at m.held f) b
+asked m (Variable v) = variable m.inputs v
 
 -- the call is within its bounds, where the list is cut to its first k functions
-abbrev pub Fits : Meaning → ℕ → Action → ℕ → ℕ → Type 0
-Fits m k And f g = (f < k) × (g < k)
-Fits m k Or f g = (f < k) × (g < k)
-Fits m k Xor f g = (f < k) × (g < k)
-Fits m k Flip f g = f < k
-Fits m k Fix f b = f < k
-Fits m k Variable v g = v ≤ m.inputs
-
--- the calls of the interface
-abbrev pub joining : Operation → ℕ → ℕ → Call
-joining op f g = record { action = action_of op; first = f; second = g }
-
-abbrev pub flipping : ℕ → Call
-flipping f = record { action = Flip; first = f; second = 0 }
-
-abbrev pub fixing : ℕ → Bool → Call
-fixing f b = record { action = Fix; first = f; second = cond b 1 0 }
-
-abbrev pub taking : ℕ → Call
-taking v = record { action = Variable; first = v; second = 0 }
+abbrev pub Fits : Meaning → ℕ → Call → Type 0
+Fits m k (Join op f g) = (f < k) × (g < k)
+Fits m k (Flip f) = f < k
+Fits m k (Fix f b) = f < k
+Fits m k (Variable v) = v ≤ m.inputs
 
 -- what a store answers to a call, by the interface
 abbrev pub Asks : Rule → Meaning → Call → Result ℕ StoreFault → Meaning → Type 0
-Asks rule m c r m' =
-    Yields rule m (Fits m (length m.held) c.action c.first c.second) (asked m c.action c.first c.second ∷ []) (asked m c.action c.first c.second) r m'
+Asks rule m c r m' = Yields rule m (Fits m (length m.held) c) (asked m c ∷ []) (asked m c) r m'

@@ -11,10 +11,10 @@ use Rattle.memo.specs.Calls.{place_of, asked, Fits, Asks}
 -- and all that is kept for that function stands there too.
 pub record Right (rule : Rule) (m : Meaning) (e : Entry) : Type 0 where
   pub within : e.length ≤ length m.held
-  pub fits : Fits m e.length e.call.action e.call.first e.call.second
+  pub fits : Fits m e.length e.call
   pub held : e.answer < e.length
-  pub answers : Same m.inputs (at m.held e.answer) (asked m e.call.action e.call.first e.call.second)
-  pub keeps : (g : Function) → has m.inputs g (rule m.inputs (asked m e.call.action e.call.first e.call.second)) ≡ true → has m.inputs g (take e.length m.held) ≡ true
+  pub answers : Same m.inputs (at m.held e.answer) (asked m e.call)
+  pub keeps : (g : Function) → has m.inputs g (rule m.inputs (asked m e.call)) ≡ true → has m.inputs g (take e.length m.held) ≡ true
 
 -- what is at a place
 abbrev pub entry_at : List (Option Entry) → ℕ → Option Entry

@@ -1,27 +1,16 @@
 //! The calls of a store that yield a function, as a memo remembers them.
-ghost use Rattle.std.specs.Prelude.{◌≡◌, ◌<◌, true, false, ◌≢◌};
-ghost use Rattle.memo.specs.Calls.{place_of, joining, flipping, fixing, taking};
+ghost use Rattle.std.specs.Prelude.{◌≡◌, ◌<◌};
+ghost use Rattle.memo.specs.Calls.{place_of, Asks};
 
-use stores::Operation;
+use stores::{Operation, Store, StoreFault};
 
-/// What a call does to yield its function.
-#[derive(Clone, Copy, PartialEq)]
-pub enum Action {
-    And,
-    Or,
-    Xor,
-    Flip,
-    Fix,
-    Variable,
-}
-
-/// A call that yields a function: what it does, and its two numbers. A fix has the bit as its second number; a flip and
-/// a variable have 0.
-#[derive(Clone, Copy)]
-pub struct Call {
-    pub(crate) action: Action,
-    pub(crate) first: usize,
-    pub(crate) second: usize,
+/// A call that yields a function, with what it is passed.
+#[derive(Clone, Copy, PartialEq, Eq, Debug)]
+pub enum Call {
+    Variable(usize),
+    Join(Operation, usize, usize),
+    Flip(usize),
+    Fix(usize, bool),
 }
 
 /// A call that was answered: the handle, and the length of the list at its end.
@@ -33,63 +22,30 @@ pub struct Entry {
 }
 
 impl Call {
-    pub(crate) fn variable(v: usize) -> Call
-        ensures { result ≡ taking v }
-    {
-        Call {
-            action: Action::Variable,
-            first: v,
-            second: 0,
-        }
-    }
-
-    pub(crate) fn join(op: Operation, f: usize, g: usize) -> Call
-        ensures { result ≡ joining op f g }
-    {
-        let action = match op {
-            Operation::And => Action::And,
-            Operation::Or => Action::Or,
-            Operation::Xor => Action::Xor,
-        };
-        Call {
-            action,
-            first: f,
-            second: g,
-        }
-    }
-
-    pub(crate) fn flip(f: usize) -> Call
-        ensures { result ≡ flipping f }
-    {
-        Call {
-            action: Action::Flip,
-            first: f,
-            second: 0,
-        }
-    }
-
-    pub(crate) fn fix(f: usize, bit: bool) -> Call
-        ensures { result ≡ fixing f bit }
-    {
-        Call {
-            action: Action::Fix,
-            first: f,
-            second: if bit { 1 } else { 0 },
-        }
-    }
-
-    // The place of a call among the 64 entries.
+    // The place of a call among the 64 entries, by its two numbers and the number of what it does. A fix has the bit as
+    // its second number; a flip and a variable have 0.
+    #[tactic(auto, unfolding(crate::specs::Calls::place_of))]
     pub(crate) fn place(self) -> usize
         ensures { (result ≡ place_of self) × (result < 64) }
     {
-        (self.first % 64 + 3 * (self.second % 64) + self.action as usize) % 64
+        let (first, second, number) = match self {
+            Call::Variable(v) => (v, 0, 5),
+            Call::Join(op, f, g) => (f, g, op as usize),
+            Call::Flip(f) => (f, 0, 3),
+            Call::Fix(f, bit) => (f, bit as usize, 4),
+        };
+        (first % 64 + 3 * (second % 64) + number) % 64
     }
 
-    // Whether this is the other call.
-    pub(crate) fn is(self, other: Call) -> bool
-        ensures same { result ≡ true → self ≡ other }
-        ensures apart { result ≡ false → self ≢ other }
+    // Makes this call of a store.
+    pub(crate) fn ask<S: Store>(self, store: &mut S) -> Result<usize, StoreFault>
+        ensures { Asks S.keeping (S.meaning store.old) self result (S.meaning store.new) }
     {
-        self.action == other.action && self.first == other.first && self.second == other.second
+        match self {
+            Call::Variable(v) => store.variable(v),
+            Call::Join(op, f, g) => store.join(op, f, g),
+            Call::Flip(f) => store.flip(f),
+            Call::Fix(f, bit) => store.fix(f, bit),
+        }
     }
 }

@@ -5,5 +5,5 @@ mod call;
 mod memo;
 mod store;
 
-pub use call::{Action, Call, Entry};
+pub use call::{Call, Entry};
 pub use memo::Memo;

@@ -1,10 +1,11 @@
 //! The memo: what it holds, and how it remembers.
-ghost use Rattle.std.specs.Prelude.{◌≡◌, slice_set, length, replicate, Some, None};
-ghost use Rattle.memo.specs.Calls.{place_of};
-ghost use Rattle.memo.specs.Memos.{SoundMemo, Recalled, Forgets};
+ghost use Rattle.std.specs.Prelude.{◌≡◌, replicate, None};
+ghost use Rattle.memo.specs.Calls.{Asks};
+ghost use Rattle.memo.specs.Memos.{SoundMemo, Recalled, Memoized, Forgets};
+ghost use Rattle.memo.specs.Props.{SoundMemo-prop};
 
 use crate::call::{Call, Entry};
-use stores::Store;
+use stores::{Store, StoreFault};
 
 /// A store over another store, which it owns. It remembers up to 64 answered calls that yielded a function, always with
 /// the newest, and answers a remembered call without a call of the store below.
@@ -12,14 +13,13 @@ use stores::Store;
 pub struct Memo<S: Store> {
     pub(crate) below: S,
     pub(crate) entries: [Option<Entry>; 64],
+    ghost sound: { SoundMemo S.Store.keeping (S.Store.meaning below) entries } by { SoundMemo-prop S.Store.keeping (S.Store.meaning below) entries },
 }
 
 impl<S: Store> Memo<S> {
     /// A memo over a store, with nothing remembered.
     pub fn new(below: S) -> Memo<S>
-        requires { S.Store.sound below }
         ensures below { result.below ≡ below }
-        ensures sound { S.Store.sound result.below × SoundMemo S.Store.keeping (S.Store.meaning result.below) result.entries }
         ensures nothing { result.entries ≡ replicate 64 None }
     {
         // What holds of every store is told by its length.
@@ -38,45 +38,38 @@ impl<S: Store> Memo<S> {
     }
 
     // The answer of a call, if it is remembered.
-    pub(crate) fn recall(&self, call: Call) -> Option<usize>
+    fn recall(&self, call: Call) -> Option<usize>
         ensures { Recalled self.now.entries call result }
     {
-        let Some(entry) = self.entries[call.place()] else {
-            return None;
-        };
-        if entry.call.is(call) {
-            Some(entry.answer)
-        } else {
-            None
-        }
+        let entry = self.entries[call.place()]?;
+        (entry.call == call).then_some(entry.answer)
     }
 
-    // Remembers the answer of a call, in the place of what was remembered there.
-    pub(crate) fn remember(&mut self, call: Call, answer: usize)
-        requires { S.Store.sound self.old.below }
-        ensures below { self.new.below ≡ self.old.below }
-        ensures entries { self.new.entries ≡ slice_set self.old.entries (place_of call) (Some (record { call = call; answer = answer; length = length (S.Store.meaning self.old.below).held })) }
+    // Answers a call by what is remembered of it, or else by the store below, and then remembers the answer in the
+    // place of what was remembered there.
+    pub(crate) fn answer(&mut self, call: Call) -> Result<usize, StoreFault>
+        ensures asks { Asks S.Store.keeping (S.Store.meaning self.old.below) call result (S.Store.meaning self.new.below) }
+        ensures memo { Memoized S.Store.keeping (S.Store.meaning self.old.below) call self.old.below self.old.entries result (S.Store.meaning self.new.below) self.new.below self.new.entries }
     {
+        if let Some(h) = self.recall(call) {
+            return Ok(h);
+        }
+        let h = call.ask(&mut self.below)?;
         let length = self.below.length();
         self.entries[call.place()] = Some(Entry {
             call,
-            answer,
+            answer: h,
             length,
         });
+        Ok(h)
     }
+}
 
-    // Forgets each call that ended with a longer list than k.
-    pub(crate) fn forget(&mut self, k: usize)
-        requires { length self.old.entries ≡ 64 }
-        ensures below { self.new.below ≡ self.old.below }
-        ensures entries { Forgets k self.old.entries self.new.entries }
-    {
-        for i in 0..64 {
-            if let Some(entry) = self.entries[i] {
-                if entry.length > k {
-                    self.entries[i] = None;
-                }
-            }
-        }
+// Forgets each call that ended with a longer list than k.
+pub(crate) fn forget(entries: &mut [Option<Entry>], k: usize)
+    ensures { Forgets k entries.old entries.new }
+{
+    for entry in entries {
+        *entry = entry.filter(|entry| entry.length <= k);
     }
 }

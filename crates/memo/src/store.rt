@@ -1,24 +1,19 @@
 //! A memo is a function store.
 ghost use Rattle.std.specs.Prelude.{◌≡◌};
 ghost use Rattle.stores.specs.Meaning.{Starts, Takes, Joins, Flips, Fixes, Releases};
-ghost use Rattle.memo.specs.Calls.{joining, flipping, fixing, taking};
-ghost use Rattle.memo.specs.Memos.{SoundMemo, Memoized, Started, Released};
+ghost use Rattle.memo.specs.Memos.{Memoized, Started, Released};
 
 use crate::call::Call;
-use crate::memo::Memo;
+use crate::memo::{Memo, forget};
 use stores::{Operation, Store, StoreFault};
 
 impl<S: Store> Store for Memo<S> {
-    ghost sound = { λ s. S.Store.sound s.below × SoundMemo S.Store.keeping (S.Store.meaning s.below) s.entries };
-
     ghost meaning = { λ s. S.Store.meaning s.below };
 
     ghost keeping = { S.Store.keeping };
 
     // A granted start forgets all.
     fn start(&mut self, inputs: usize) -> Result<(), StoreFault>
-        requires { S.Store.sound self.old.below × SoundMemo S.Store.keeping (S.Store.meaning self.old.below) self.old.entries }
-        ensures sound { S.Store.sound self.new.below × SoundMemo S.Store.keeping (S.Store.meaning self.new.below) self.new.entries }
         ensures starts { Starts (S.Store.meaning self.old.below) inputs result (S.Store.meaning self.new.below) }
         ensures memo { Started self.old.entries result self.new.entries }
     {
@@ -28,63 +23,31 @@ impl<S: Store> Store for Memo<S> {
     }
 
     fn variable(&mut self, v: usize) -> Result<usize, StoreFault>
-        requires { S.Store.sound self.old.below × SoundMemo S.Store.keeping (S.Store.meaning self.old.below) self.old.entries }
-        ensures sound { S.Store.sound self.new.below × SoundMemo S.Store.keeping (S.Store.meaning self.new.below) self.new.entries }
         ensures takes { Takes S.Store.keeping (S.Store.meaning self.old.below) v result (S.Store.meaning self.new.below) }
-        ensures memo { Memoized S.Store.keeping (S.Store.meaning self.old.below) (taking v) self.old.below self.old.entries result (S.Store.meaning self.new.below) self.new.below self.new.entries }
+        ensures memo { Memoized S.Store.keeping (S.Store.meaning self.old.below) (Call.Variable v) self.old.below self.old.entries result (S.Store.meaning self.new.below) self.new.below self.new.entries }
     {
-        let call = Call::variable(v);
-        if let Some(h) = self.recall(call) {
-            return Ok(h);
-        }
-        let h = self.below.variable(v)?;
-        self.remember(call, h);
-        Ok(h)
+        self.answer(Call::Variable(v))
     }
 
     fn join(&mut self, op: Operation, f: usize, g: usize) -> Result<usize, StoreFault>
-        requires { S.Store.sound self.old.below × SoundMemo S.Store.keeping (S.Store.meaning self.old.below) self.old.entries }
-        ensures sound { S.Store.sound self.new.below × SoundMemo S.Store.keeping (S.Store.meaning self.new.below) self.new.entries }
         ensures joins { Joins S.Store.keeping (S.Store.meaning self.old.below) op f g result (S.Store.meaning self.new.below) }
-        ensures memo { Memoized S.Store.keeping (S.Store.meaning self.old.below) (joining op f g) self.old.below self.old.entries result (S.Store.meaning self.new.below) self.new.below self.new.entries }
+        ensures memo { Memoized S.Store.keeping (S.Store.meaning self.old.below) (Call.Join op f g) self.old.below self.old.entries result (S.Store.meaning self.new.below) self.new.below self.new.entries }
     {
-        let call = Call::join(op, f, g);
-        if let Some(h) = self.recall(call) {
-            return Ok(h);
-        }
-        let h = self.below.join(op, f, g)?;
-        self.remember(call, h);
-        Ok(h)
+        self.answer(Call::Join(op, f, g))
     }
 
     fn flip(&mut self, f: usize) -> Result<usize, StoreFault>
-        requires { S.Store.sound self.old.below × SoundMemo S.Store.keeping (S.Store.meaning self.old.below) self.old.entries }
-        ensures sound { S.Store.sound self.new.below × SoundMemo S.Store.keeping (S.Store.meaning self.new.below) self.new.entries }
         ensures flips { Flips S.Store.keeping (S.Store.meaning self.old.below) f result (S.Store.meaning self.new.below) }
-        ensures memo { Memoized S.Store.keeping (S.Store.meaning self.old.below) (flipping f) self.old.below self.old.entries result (S.Store.meaning self.new.below) self.new.below self.new.entries }
+        ensures memo { Memoized S.Store.keeping (S.Store.meaning self.old.below) (Call.Flip f) self.old.below self.old.entries result (S.Store.meaning self.new.below) self.new.below self.new.entries }
     {
-        let call = Call::flip(f);
-        if let Some(h) = self.recall(call) {
-            return Ok(h);
-        }
-        let h = self.below.flip(f)?;
-        self.remember(call, h);
-        Ok(h)
+        self.answer(Call::Flip(f))
     }
 
     fn fix(&mut self, f: usize, bit: bool) -> Result<usize, StoreFault>
-        requires { S.Store.sound self.old.below × SoundMemo S.Store.keeping (S.Store.meaning self.old.below) self.old.entries }
-        ensures sound { S.Store.sound self.new.below × SoundMemo S.Store.keeping (S.Store.meaning self.new.below) self.new.entries }
         ensures fixes { Fixes S.Store.keeping (S.Store.meaning self.old.below) f bit result (S.Store.meaning self.new.below) }
-        ensures memo { Memoized S.Store.keeping (S.Store.meaning self.old.below) (fixing f bit) self.old.below self.old.entries result (S.Store.meaning self.new.below) self.new.below self.new.entries }
+        ensures memo { Memoized S.Store.keeping (S.Store.meaning self.old.below) (Call.Fix f bit) self.old.below self.old.entries result (S.Store.meaning self.new.below) self.new.below self.new.entries }
     {
-        let call = Call::fix(f, bit);
-        if let Some(h) = self.recall(call) {
-            return Ok(h);
-        }
-        let h = self.below.fix(f, bit)?;
-        self.remember(call, h);
-        Ok(h)
+        self.answer(Call::Fix(f, bit))
     }
 
     fn value(&self, f: usize, e: bool, a: usize) -> Result<bool, StoreFault> {
@@ -97,13 +60,11 @@ impl<S: Store> Store for Memo<S> {
 
     // A granted release forgets each call that ended with a longer list than is left.
     fn release(&mut self, m: usize) -> Result<(), StoreFault>
-        requires { S.Store.sound self.old.below × SoundMemo S.Store.keeping (S.Store.meaning self.old.below) self.old.entries }
-        ensures sound { S.Store.sound self.new.below × SoundMemo S.Store.keeping (S.Store.meaning self.new.below) self.new.entries }
         ensures releases { Releases (S.Store.meaning self.old.below) m result (S.Store.meaning self.new.below) }
         ensures memo { Released m self.old.entries result self.new.entries }
     {
         self.below.release(m)?;
-        self.forget(m);
+        forget(&mut self.entries, m);
         Ok(())
     }
 }
