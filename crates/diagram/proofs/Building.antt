@@ -8,8 +8,9 @@ use Rattle.stores.specs.Functions.{Function, never, Same}
 use Rattle.stores.specs.Meaning.{Good, Lawful, Gained, Overfull, at, has}
 use Rattle.stores.proofs.Sames.{Same_sym}
 use Rattle.stores.proofs.Laws.{held_already, gained_new, overfull_new}
+use Rattle.diagram.specs.declared.row.Node.{Node}
 use Rattle.diagram.specs.declared.row.Row.{Row}
-use Rattle.diagram.specs.Chains.{row, chain, chain_of_row, newest, Chained, HasParts, Placed, LinkedOf}
+use Rattle.diagram.specs.Chains.{row, chain, newest, Chained, Placed, LinkedOf}
 use Rattle.diagram.specs.Rows.{node, functions, top, Ordered, SoundOf}
 use Rattle.diagram.specs.Subfunctions.{subfunctions}
 use Rattle.diagram.specs.Diagrams.{meaning_of, LaterOf, ExtendsOf, AppendedOf, BuildsOf}
@@ -52,30 +53,33 @@ module _ (n len : ℕ) (rows : List Row) (heads : List ℕ) (s : SoundOf n len r
   )
 
   module _ (v low high : ℕ) (w : LaterOf n len rows v low high) where
+    abbrev made : Node
+    made = record { variable = v; low = low; high = high }
+
     pub node_equal : low ≡ high → BuildsOf n len rows (node n v (at (functions n rows len) low) (at (functions n rows len) high)) v (Ok low) len rows
     node_equal e =
         let l = w.low_later in
         stays low (node n v (at (functions n rows len) low) (at (functions n rows len) high)) v w.low_held
         (subst (λ x. Same n (at (functions n rows len) low) (node n v (at (functions n rows len) low) (at (functions n rows len) x))) e (node_both n v (at (functions n rows len) low))) (omega arith)
 
-    pub node_found : (h : ℕ) → Placed len rows v low high (Some h) → BuildsOf n len rows (node n v (at (functions n rows len) low) (at (functions n rows len) high)) v (Ok h) len rows
+    pub node_found : (h : ℕ) → Placed len rows made (Some h) → BuildsOf n len rows (node n v (at (functions n rows len) low) (at (functions n rows len) high)) v (Ok h) len rows
     node_found h found =
         let (k, l, i, p) = found in
         let j : h ≡ suc (suc k) = omega arith in
         let F = functions n rows len in
-        let e : at F (suc (suc k)) ≡ node n v (at F low) (at F high) = at_row n rows len k l (s.reduced.ordered k l) ∙ rw (p.variable_is, p.low_is, p.high_is) in
+        let e : at F (suc (suc k)) ≡ node n v (at F low) (at F high) = at_row n rows len k l (s.reduced.ordered k l) ∙ ap (λ x. node n x.variable (at F x.low) (at F x.high)) p in
         let t : Same n (at F (suc (suc k))) (node n v (at F low) (at F high)) = λ q m. ap (λ x. x q) e in
-        let y : v ≤ top n rows (suc (suc k)) = omega (arith, p.variable_is) in
+        let y : v ≤ top n rows (suc (suc k)) = omega (arith, ap (λ x. x.variable) p) in
         subst (λ x. BuildsOf n len rows (node n v (at F low) (at F high)) v (Ok x) len rows) (sym j) (stays (suc (suc k)) (node n v (at F low) (at F high)) v (omega arith) t y)
 
-    module _ (differ : low ≡ high → ⊥) (none : Placed len rows v low high None) where
+    module _ (differ : low ≡ high → ⊥) (none : Placed len rows made None) where
       pub node_new : has n (node n v (at (functions n rows len) low) (at (functions n rows len) high)) (functions n rows len) ≡ false
       node_new = new_function n rows len s.reduced.ordered (canonical n rows len s.reduced) v low high w.known w.low_held w.high_held differ w.low_later w.high_later none
 
       pub node_full : length rows ≤ len → Overfull subfunctions (meaning_of n len rows) (node n v (at (functions n rows len) low) (at (functions n rows len) high) ∷ [])
       node_full l = overfull_new subfunctions (meaning_of n len rows) (node n v (at (functions n rows len) low) (at (functions n rows len) high)) good (keeps n) node_new (omega (arith, others_length))
 
-      module _ (rows' : List Row) (a : AppendedOf n len rows v low high n (len + 1) rows') where
+      module _ (rows' : List Row) (a : AppendedOf n len rows made n (len + 1) rows') where
         tops : (h : ℕ) → h < len + 2 → top n rows' h ≡ top n rows h
         tops h l = top_kept n rows rows' len h a.rows_kept l
 
@@ -90,34 +94,34 @@ module _ (n len : ℕ) (rows : List Row) (heads : List ℕ) (s : SoundOf n len r
               low_earlier = rw e o.low_earlier;
               high_earlier = rw e o.high_earlier;
               parts_differ = rw e o.parts_differ;
-              low_rises = rw e (rw (tops (row rows k).low (omega arith)) o.low_rises);
-              high_rises = rw e (rw (tops (row rows k).high (omega arith)) o.high_rises);
+              low_rises = rw e (rw (tops (row rows k).node.low (omega arith)) o.low_rises);
+              high_rises = rw e (rw (tops (row rows k).node.high (omega arith)) o.high_rises);
             }
 
         ordered_last : Ordered n rows' len
         ordered_last =
             let p = a.row_new in
             record {
-              known = rw p.variable_is w.known;
-              low_earlier = rw p.low_is w.low_held;
-              high_earlier = rw p.high_is w.high_held;
-              parts_differ = rw (p.low_is, p.high_is) differ;
-              low_rises = rw (p.variable_is, p.low_is) (rw (tops low w.low_held) w.low_later);
-              high_rises = rw (p.variable_is, p.high_is) (rw (tops high w.high_held) w.high_later);
+              known = rw p w.known;
+              low_earlier = rw p w.low_held;
+              high_earlier = rw p w.high_held;
+              parts_differ = rw p differ;
+              low_rises = rw p (rw (tops low w.low_held) w.low_later);
+              high_rises = rw p (rw (tops high w.high_held) w.high_later);
             }
 
         ordered_more : (k : ℕ) → k < len + 1 → Ordered n rows' k
         ordered_more k l = elim (cases_lt k len) [ inl before ↦ ordered_before k before | inr last ↦ let e : k ≡ len = omega arith in subst (Ordered n rows') (sym e) ordered_last ]
 
-        once_more : (j k : ℕ) → j < k → k < len + 1 → HasParts (row rows' j) (row rows' k).variable (row rows' k).low (row rows' k).high → ⊥
+        once_more : (j k : ℕ) → j < k → k < len + 1 → (row rows' j).node ≡ (row rows' k).node → ⊥
         once_more j k m l p =
             let d = a.rows_kept j (omega arith) in
             elim (cases_lt k len) [
               | inl before ↦ s.reduced.once j k m before (rw (d, a.rows_kept k before) at p)
               | inr last ↦ let e : k ≡ len = omega arith in
                   let q = a.row_new in
-                  let p' : HasParts (row rows j) (row rows' len).variable (row rows' len).low (row rows' len).high = rw (d, e) at p in
-                  none j (omega arith) (rw (q.variable_is, q.low_is, q.high_is) at p')
+                  let p' : (row rows j).node ≡ (row rows' len).node = rw (d, e) at p in
+                  none j (omega arith) (p' ∙ q)
             ]
 
         pub sound_more : (heads' : List ℕ) → LinkedOf (len + 1) rows' heads' → SoundOf n (len + 1) rows' heads'
@@ -131,7 +135,7 @@ module _ (n len : ℕ) (rows : List Row) (heads : List ℕ) (s : SoundOf n len r
             let p = a.row_new in
             functions_more n rows' len
             ∙ (ap (λ x. x ++ row_function n rows' len x ∷ []) (functions_kept n rows rows' len a.rows_kept)
-            ∙ ap (λ x. functions n rows len ++ x ∷ []) (rw (p.variable_is, p.low_is, p.high_is)))
+            ∙ ap (λ x. functions n rows len ++ x ∷ []) (ap (λ x. node n x.variable (at (functions n rows len) x.low) (at (functions n rows len) x.high)) p))
 
         functions_one : functions n rows' (len + 1) ≡ functions n rows len ++ node n v (at (functions n rows len) low) (at (functions n rows len) high) ∷ []
         functions_one = let one : len + 1 ≡ suc len = omega arith in ap (functions n rows') one ∙ functions_new
@@ -152,28 +156,28 @@ module _ (n len : ℕ) (rows : List Row) (heads : List ℕ) (s : SoundOf n len r
           subst (λ x. Gained subfunctions (meaning_of n len rows) (node n v (at (functions n rows len) low) (at (functions n rows len) high) ∷ []) x) (sym meaning_new)
               (gained_new subfunctions (meaning_of n len rows) (node n v (at (functions n rows len) low) (at (functions n rows len) high)) good (keeps n) node_new (omega (arith, others_length)) kept_new),
           record { within = omega (arith, functions_length n rows' (len + 1)); means = λ p q. ap (λ x. x p) at_new },
-          (let i : len + 1 + 1 ≡ suc (suc len) = omega arith in subst (λ x. v ≤ top n rows' x) (sym i) (omega (arith, a.row_new.variable_is))),
+          (let i : len + 1 + 1 ≡ suc (suc len) = omega arith in subst (λ x. v ≤ top n rows' x) (sym i) (omega (arith, ap (λ x. x.variable) a.row_new))),
         )
 
       -- the same for a store whose fields are known by what `append` leaves
-      pub node_appended : (n' len' : ℕ) (rows' : List Row) → AppendedOf n len rows v low high n' len' rows' → len < length rows → ExtendsOf n len rows n' len' rows' × BuildsOf n len rows (node n v (at (functions n rows len) low) (at (functions n rows len) high)) v (Ok (len' + 1)) len' rows'
+      pub node_appended : (n' len' : ℕ) (rows' : List Row) → AppendedOf n len rows made n' len' rows' → len < length rows → ExtendsOf n len rows n' len' rows' × BuildsOf n len rows (node n v (at (functions n rows len) low) (at (functions n rows len) high)) v (Ok (len' + 1)) len' rows'
       node_appended n' len' rows' a room =
-          subst (λ y. AppendedOf n len rows v low high n' y rows' → ExtendsOf n len rows n' y rows' × BuildsOf n len rows (node n v (at (functions n rows len) low) (at (functions n rows len) high)) v (Ok (y + 1)) y rows') (sym a.one_more)
-          (λ b. subst (λ x. AppendedOf n len rows v low high x (len + 1) rows' → ExtendsOf n len rows x (len + 1) rows' × BuildsOf n len rows (node n v (at (functions n rows len) low) (at (functions n rows len) high)) v (Ok (len + 1 + 1)) (len + 1) rows') (sym a.inputs_kept)
+          subst (λ y. AppendedOf n len rows made n' y rows' → ExtendsOf n len rows n' y rows' × BuildsOf n len rows (node n v (at (functions n rows len) low) (at (functions n rows len) high)) v (Ok (y + 1)) y rows') (sym a.one_more)
+          (λ b. subst (λ x. AppendedOf n len rows made x (len + 1) rows' → ExtendsOf n len rows x (len + 1) rows' × BuildsOf n len rows (node n v (at (functions n rows len) low) (at (functions n rows len) high)) v (Ok (len + 1 + 1)) (len + 1) rows') (sym a.inputs_kept)
           (λ d. (extends_more rows' d, built rows' d room)) b) a
 
       -- the new row at the head of its chain b
-      module _ (room : len < length rows) (b : ℕ) (e : b ≡ chain v low high) (few : b < 1024) where
+      module _ (room : len < length rows) (b : ℕ) (e : b ≡ chain made) (few : b < 1024) where
         abbrev new_row : Row
-        new_row = record { variable = v; low = low; high = high; next = get_or heads b 0 }
+        new_row = record { node = made; next = get_or heads b 0 }
 
-        linked : new_row.next ≡ get_or heads (chain_of_row new_row) 0
+        linked : new_row.next ≡ get_or heads (chain made) 0
         linked = ap (λ x. get_or heads x 0) e
 
-        in_chain : chain_of_row new_row < 1024
+        in_chain : chain made < 1024
         in_chain = subst (λ x. x < 1024) e few
 
-        pub row_appended : AppendedOf n len rows v low high n (len + 1) (set rows len new_row)
+        pub row_appended : AppendedOf n len rows made n (len + 1) (set rows len new_row)
         row_appended =
             let here = set_here len rows heads new_row s.linked.chained room linked in_chain in
             record {
@@ -181,7 +185,7 @@ module _ (n len : ℕ) (rows : List Row) (heads : List ℕ) (s : SoundOf n len r
               one_more = refl;
               size_kept = length-set rows len new_row;
               rows_kept = set_before len rows heads new_row s.linked.chained room linked in_chain;
-              row_new = record { variable_is = ap (λ x. x.variable) here; low_is = ap (λ x. x.low) here; high_is = ap (λ x. x.high) here };
+              row_new = ap (λ x. x.node) here;
             }
 
         pub row_sound : SoundOf n (len + 1) (set rows len new_row) (set heads b (len + 2))
@@ -194,7 +198,7 @@ module _ (n len : ℕ) (rows : List Row) (heads : List ℕ) (s : SoundOf n len r
             })
 
 -- a store without its newest row, which was taken off the head of its chain b
-pub less_sound : (n len : ℕ) (rows : List Row) (heads : List ℕ) → SoundOf n len rows heads → 0 < len → (b : ℕ) → b ≡ chain_of_row (row rows (len - 1)) → b < 1024 → SoundOf n (len - 1) rows (set heads b (row rows (len - 1)).next)
+pub less_sound : (n len : ℕ) (rows : List Row) (heads : List ℕ) → SoundOf n len rows heads → 0 < len → (b : ℕ) → b ≡ chain (row rows (len - 1)).node → b < 1024 → SoundOf n (len - 1) rows (set heads b (row rows (len - 1)).next)
 less_sound n len rows heads s some b e few =
     let k = len - 1 in
     let z : len ≡ suc k = omega arith in

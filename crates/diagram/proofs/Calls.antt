@@ -77,7 +77,7 @@ module _ (n len : ℕ) (rows : List Row) (heads : List ℕ) (s : SoundOf n len r
       yields_as subfunctions (meaning_of n len rows) m' _ (joined Xor (at (functions n rows len) f) (at (functions n rows len) 1)) (complement (at (functions n rows len) f)) r (keeps n) (held f l) (xor_true (at (functions n rows len) f)) y
 
   -- one row down, by the bit of the row's variable
-  pub down : (h p : ℕ) (b : Bool) → h < len + 2 → 2 ≤ h → bit p (n - (row rows (h - 2)).variable) ≡ b → (cond b (row rows (h - 2)).high (row rows (h - 2)).low < len + 2) × (at (functions n rows len) (cond b (row rows (h - 2)).high (row rows (h - 2)).low) p ≡ at (functions n rows len) h p)
+  pub down : (h p : ℕ) (b : Bool) → h < len + 2 → 2 ≤ h → bit p (n - (row rows (h - 2)).node.variable) ≡ b → (cond b (row rows (h - 2)).node.high (row rows (h - 2)).node.low < len + 2) × (at (functions n rows len) (cond b (row rows (h - 2)).node.high (row rows (h - 2)).node.low) p ≡ at (functions n rows len) h p)
   unfolding variable
   down h p b l two t =
       let k = h - 2 in
@@ -87,8 +87,8 @@ module _ (n len : ℕ) (rows : List Row) (heads : List ℕ) (s : SoundOf n len r
       let x = o.low_earlier in
       let y = o.high_earlier in
       let F = functions n rows len in
-      let taken : at F h p ≡ cond b (at F (row rows k).high p) (at F (row rows k).low p) = ap (λ z. at F z p) i ∙ (ap (λ z. z p) (at_row n rows len k m o) ∙ ap (λ z. cond z (at F (row rows k).high p) (at F (row rows k).low p)) t) in
-      elim b as (λ c. at F h p ≡ cond c (at F (row rows k).high p) (at F (row rows k).low p) → (cond c (row rows k).high (row rows k).low < len + 2) × (at F (cond c (row rows k).high (row rows k).low) p ≡ at F h p)) [
+      let taken : at F h p ≡ cond b (at F (row rows k).node.high p) (at F (row rows k).node.low p) = ap (λ z. at F z p) i ∙ (ap (λ z. z p) (at_row n rows len k m o) ∙ ap (λ z. cond z (at F (row rows k).node.high p) (at F (row rows k).node.low p)) t) in
+      elim b as (λ c. at F h p ≡ cond c (at F (row rows k).node.high p) (at F (row rows k).node.low p) → (cond c (row rows k).node.high (row rows k).node.low < len + 2) × (at F (cond c (row rows k).node.high (row rows k).node.low) p ≡ at F h p)) [
         | true ↦ λ e. (omega arith, sym e)
         | false ↦ λ e. (omega arith, sym e)
       ] taken

@@ -5,7 +5,7 @@ use Rattle.stores.specs.Functions.{Function, never, always, Same}
 use Rattle.stores.specs.Meaning.{at, has, different}
 use Rattle.stores.proofs.Sames.{Same_sym, Same_trans, at_has, has_at, different_push, constants_differ}
 use Rattle.diagram.specs.declared.row.Row.{Row}
-use Rattle.diagram.specs.Chains.{row, HasParts}
+use Rattle.diagram.specs.Chains.{row}
 use Rattle.diagram.specs.Subfunctions.{cofactor, settings, subfunctions}
 use Rattle.diagram.specs.Rows.{node, Free, functions, top, Ordered, Reduced}
 use Rattle.diagram.proofs.Nodes.{free_never, free_always, free_fewer, free_node, node_parts, node_idle, node_low, node_high, cofactor_same, cofactor_free}
@@ -21,15 +21,15 @@ module _ (n : ℕ) (rows : List Row) where
   free_below (suc b) len o (suc (suc k)) l m =
       let w : k < len = omega arith in
       let r = o k w in
-      let v = (row rows k).variable in
-      let f = at (functions n rows len) (row rows k).low in
-      let g = at (functions n rows len) (row rows k).high in
+      let v = (row rows k).node.variable in
+      let f = at (functions n rows len) (row rows k).node.low in
+      let g = at (functions n rows len) (row rows k).node.high in
       let x = r.low_earlier in
       let y = r.high_earlier in
       let s = r.low_rises in
       let t = r.high_rises in
-      let i = free_fewer n (top n rows (row rows k).low) v f (omega arith) (free_below b len o (row rows k).low (omega arith) (omega arith)) in
-      let j = free_fewer n (top n rows (row rows k).high) v g (omega arith) (free_below b len o (row rows k).high (omega arith) (omega arith)) in
+      let i = free_fewer n (top n rows (row rows k).node.low) v f (omega arith) (free_below b len o (row rows k).node.low (omega arith) (omega arith)) in
+      let j = free_fewer n (top n rows (row rows k).node.high) v g (omega arith) (free_below b len o (row rows k).node.high (omega arith) (omega arith)) in
       subst (λ z. Free n v z) (sym (at_row n rows len k w r)) (free_node n v f g r.known i j)
 
   pub free_at : (len : ℕ) → ((k : ℕ) → k < len → Ordered n rows k) → (h : ℕ) → h < len + 2 → Free n (top n rows h) (at (functions n rows len) h)
@@ -40,7 +40,7 @@ module _ (n : ℕ) (rows : List Row) where
   Apart len = (i j : ℕ) → i < len + 2 → j < len + 2 → Same n (at (functions n rows len) i) (at (functions n rows len) j) → i ≡ j
 
   -- A new node is no function that is held.
-  module _ (len : ℕ) (o : (k : ℕ) → k < len → Ordered n rows k) (apart : Apart len) (v low high : ℕ) (known : v ≤ n) (held_Low : low < len + 2) (held_High : high < len + 2) (differ : low ≡ high → ⊥) (low_rises : v < top n rows low) (high_rises : v < top n rows high) (new : (k : ℕ) → k < len → HasParts (row rows k) v low high → ⊥) where
+  module _ (len : ℕ) (o : (k : ℕ) → k < len → Ordered n rows k) (apart : Apart len) (v low high : ℕ) (known : v ≤ n) (held_Low : low < len + 2) (held_High : high < len + 2) (differ : low ≡ high → ⊥) (low_rises : v < top n rows low) (high_rises : v < top n rows high) (new : (k : ℕ) → k < len → (row rows k).node ≡ record { variable = v; low = low; high = high } → ⊥) where
     f : Function
     f = at (functions n rows len) low
 
@@ -68,9 +68,9 @@ module _ (n : ℕ) (rows : List Row) where
     unfolding f g
     not_row k l s =
         let r = o k l in
-        let u = (row rows k).variable in
-        let x = (row rows k).low in
-        let y = (row rows k).high in
+        let u = (row rows k).node.variable in
+        let x = (row rows k).node.low in
+        let y = (row rows k).node.high in
         let f' = at (functions n rows len) x in
         let g' = at (functions n rows len) y in
         let a = r.low_earlier in
@@ -85,7 +85,7 @@ module _ (n : ℕ) (rows : List Row) where
         elim (cases_order v u) [
           | inl same ↦ let s'' : Same n (node n v f g) (node n v f' g') = subst (λ z. Same n (node n v f g) (node n z f' g')) (sym same) s' in
               let (p, q) = node_parts n v f g free_f free_g f' g' (subst (λ z. Free n (suc z) f') (sym same) free_x) (subst (λ z. Free n (suc z) g') (sym same) free_y) s'' in
-              new k l (record { variable_is = sym same; low_is = sym (apart low x held_Low held_x p); high_is = sym (apart high y held_High held_y q) })
+              new k l (rw (same, apart low x held_Low held_x p, apart high y held_High held_y q) refl)
           | inr other ↦ elim other [
             | inl later ↦ not_later (at (functions n rows len) (suc (suc k))) (free_fewer n u (suc v) _ (omega arith) (free_at len o (suc (suc k)) (omega arith))) s
             | inr earlier ↦ r.parts_differ (apart x y held_x held_y (node_idle n u f' g' free_x free_y (node n v f g) (free_fewer n v (suc u) (node n v f g) (omega arith) free_new) (Same_sym n (node n v f g) (node n u f' g') s')))
@@ -123,7 +123,7 @@ module _ (n : ℕ) (rows : List Row) where
   row_new : (k : ℕ) → Reduced n (suc k) rows → Apart k → (h : ℕ) → h < k + 2 → Same n (row_function n rows k (functions n rows k)) (at (functions n rows k) h) → ⊥
   row_new k r a h l s =
       let o = r.ordered k (omega arith) in
-      not_held k (λ j q. r.ordered j (omega arith)) a (row rows k).variable (row rows k).low (row rows k).high o.known o.low_earlier o.high_earlier o.parts_differ o.low_rises o.high_rises
+      not_held k (λ j q. r.ordered j (omega arith)) a (row rows k).node.variable (row rows k).node.low (row rows k).node.high o.known o.low_earlier o.high_earlier o.parts_differ o.low_rises o.high_rises
       (λ j q p. r.once j k q (omega arith) p) h l s
 
   pub canonical : (len : ℕ) → Reduced n len rows → Apart len
@@ -159,19 +159,19 @@ module _ (n : ℕ) (rows : List Row) where
           let w = fewer_reduced (suc k) k (omega arith) r in
           subst (λ x. different n x ≡ true) (sym (functions_more n rows k))
           (different_push n (functions n rows k) f (differ k w)
-          (new_function k (λ j q. r.ordered j (omega arith)) (canonical k w) (row rows k).variable (row rows k).low (row rows k).high o.known o.low_earlier o.high_earlier o.parts_differ o.low_rises o.high_rises (λ j q p. r.once j k q (omega arith) p)))
+          (new_function k (λ j q. r.ordered j (omega arith)) (canonical k w) (row rows k).node.variable (row rows k).node.low (row rows k).node.high o.known o.low_earlier o.high_earlier o.parts_differ o.low_rises o.high_rises (λ j q p. r.once j k q (omega arith) p)))
 
   -- what is left of a node where its variable is set is the function of one of its two handles
   pub part_held : (len : ℕ) → ((k : ℕ) → k < len → Ordered n rows k) → (v low high : ℕ) → low < len + 2 → high < len + 2 → v < top n rows low → v < top n rows high → (b : Bool) → (cond b high low < len + 2) × (suc v ≤ top n rows (cond b high low)) × Same n (cofactor n v b (node n v (at (functions n rows len) low) (at (functions n rows len) high))) (at (functions n rows len) (cond b high low))
   part_held len o v low high x y s t true = (y, omega arith, node_high n v (at (functions n rows len) low) (at (functions n rows len) high) (free_fewer n (top n rows high) (suc v) _ (omega arith) (free_at len o high y)))
   part_held len o v low high x y s t false = (x, omega arith, node_low n v (at (functions n rows len) low) (at (functions n rows len) high) (free_fewer n (top n rows low) (suc v) _ (omega arith) (free_at len o low x)))
 
-  row_part : (len : ℕ) → ((k : ℕ) → k < len → Ordered n rows k) → (k : ℕ) (b : Bool) (r : ℕ) → r < len → (row rows r).variable ≡ k → (j : ℕ) × (j < len + 2) × (suc k ≤ top n rows j) × Same n (cofactor n k b (at (functions n rows len) (suc (suc r)))) (at (functions n rows len) j)
+  row_part : (len : ℕ) → ((k : ℕ) → k < len → Ordered n rows k) → (k : ℕ) (b : Bool) (r : ℕ) → r < len → (row rows r).node.variable ≡ k → (j : ℕ) × (j < len + 2) × (suc k ≤ top n rows j) × Same n (cofactor n k b (at (functions n rows len) (suc (suc r)))) (at (functions n rows len) j)
   row_part len o k b r l e =
       let w = o r l in
       let F = functions n rows len in
-      let low = (row rows r).low in
-      let high = (row rows r).high in
+      let low = (row rows r).node.low in
+      let high = (row rows r).node.high in
       let x = w.low_earlier in
       let y = w.high_earlier in
       let (held, rises, same) = part_held len o k low high (omega arith) (omega arith) (rw e at w.low_rises) (rw e at w.high_rises) b in

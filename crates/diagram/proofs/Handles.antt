@@ -10,7 +10,7 @@ use Rattle.diagram.proofs.Rows.{at_row}
 
 module _ (n len : ℕ) (rows : List Row) (heads : List ℕ) (s : SoundOf n len rows heads) where
   -- a row's handles, where its variable is v
-  pub row_parts : (h v : ℕ) → h < len + 2 → 2 ≤ h → v ≤ n → (row rows (h - 2)).variable ≡ v → LaterOf n len rows v (row rows (h - 2)).low (row rows (h - 2)).high × Same n (at (functions n rows len) h) (node n v (at (functions n rows len) (row rows (h - 2)).low) (at (functions n rows len) (row rows (h - 2)).high))
+  pub row_parts : (h v : ℕ) → h < len + 2 → 2 ≤ h → v ≤ n → (row rows (h - 2)).node.variable ≡ v → LaterOf n len rows v (row rows (h - 2)).node.low (row rows (h - 2)).node.high × Same n (at (functions n rows len) h) (node n v (at (functions n rows len) (row rows (h - 2)).node.low) (at (functions n rows len) (row rows (h - 2)).node.high))
   row_parts zero v l two known e = let z : ⊥ = omega arith in absurd z
   row_parts (suc zero) v l two known e = let z : ⊥ = omega arith in absurd z
   row_parts (suc (suc k)) v l two known e =
@@ -19,9 +19,9 @@ module _ (n len : ℕ) (rows : List Row) (heads : List ℕ) (s : SoundOf n len r
       let o = s.reduced.ordered k m in
       let a = o.low_earlier in
       let b = o.high_earlier in
-      let e' : (row rows k).variable ≡ v = subst (λ x. (row rows x).variable ≡ v) i e in
+      let e' : (row rows k).node.variable ≡ v = subst (λ x. (row rows x).node.variable ≡ v) i e in
       let F = functions n rows len in
-      subst (λ x. LaterOf n len rows v (row rows x).low (row rows x).high × Same n (at F (suc (suc k))) (node n v (at F (row rows x).low) (at F (row rows x).high))) (sym i) (
+      subst (λ x. LaterOf n len rows v (row rows x).node.low (row rows x).node.high × Same n (at F (suc (suc k))) (node n v (at F (row rows x).node.low) (at F (row rows x).node.high))) (sym i) (
         record { known = known; low_held = omega arith; high_held = omega arith; low_later = rw e' at o.low_rises; high_later = rw e' at o.high_rises },
-        (λ p q. ap (λ x. x p) (at_row n rows len k m o ∙ ap (λ x. node n x (at F (row rows k).low) (at F (row rows k).high)) e')),
+        (λ p q. ap (λ x. x p) (at_row n rows len k m o ∙ ap (λ x. node n x (at F (row rows k).node.low) (at F (row rows k).node.high)) e')),
       )

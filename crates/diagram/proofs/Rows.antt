@@ -11,7 +11,7 @@ use Rattle.diagram.specs.Rows.{node, functions, top, Ordered}
 
 -- the function of the row at place k, among the functions fs
 abbrev pub row_function : ℕ → List Row → ℕ → List Function → Function
-row_function n rows k fs = node n (row rows k).variable (at fs (row rows k).low) (at fs (row rows k).high)
+row_function n rows k fs = node n (row rows k).node.variable (at fs (row rows k).node.low) (at fs (row rows k).node.high)
 
 pub functions_kept : (n : ℕ) (rows rows' : List Row) (len : ℕ) → ((k : ℕ) → k < len → row rows' k ≡ row rows k) → functions n rows' len ≡ functions n rows len
 unfolding functions
@@ -61,10 +61,10 @@ module _ (n : ℕ) (rows : List Row) where
   -- a row's function is made of those of its handles
   pub at_row : (len k : ℕ) → k < len → Ordered n rows k → at (functions n rows len) (suc (suc k)) ≡ row_function n rows k (functions n rows len)
   at_row len k l o =
-      let a = at_fewer k len (row rows k).low (omega arith) o.low_earlier in
-      let b = at_fewer k len (row rows k).high (omega arith) o.high_earlier in
+      let a = at_fewer k len (row rows k).node.low (omega arith) o.low_earlier in
+      let b = at_fewer k len (row rows k).node.high (omega arith) o.high_earlier in
       at_fewer (suc k) len (suc (suc k)) (omega arith) (omega arith)
-      ∙ (at_last k ∙ (ap (λ x. node n (row rows k).variable x (at (functions n rows k) (row rows k).high)) (sym a) ∙ ap (λ x. node n (row rows k).variable (at (functions n rows len) (row rows k).low) x) (sym b)))
+      ∙ (at_last k ∙ (ap (λ x. node n (row rows k).node.variable x (at (functions n rows k) (row rows k).node.high)) (sym a) ∙ ap (λ x. node n (row rows k).node.variable (at (functions n rows len) (row rows k).node.low) x) (sym b)))
 
 pub top_most : (n : ℕ) (rows : List Row) (len : ℕ) → ((k : ℕ) → k < len → Ordered n rows k) → (h : ℕ) → h < len + 2 → top n rows h ≤ n + 1
 top_most n rows len o zero l = omega arith
@@ -74,4 +74,4 @@ top_most n rows len o (suc (suc k)) l = let w = (o k (omega arith)).known in ome
 pub top_kept : (n : ℕ) (rows rows' : List Row) (len h : ℕ) → ((k : ℕ) → k < len → row rows' k ≡ row rows k) → h < len + 2 → top n rows' h ≡ top n rows h
 top_kept n rows rows' len zero same l = refl
 top_kept n rows rows' len (suc zero) same l = refl
-top_kept n rows rows' len (suc (suc k)) same l = ap (λ x. x.variable) (same k (omega arith))
+top_kept n rows rows' len (suc (suc k)) same l = ap (λ x. x.node.variable) (same k (omega arith))

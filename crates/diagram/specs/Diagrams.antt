@@ -5,9 +5,10 @@ use Rattle.stores.specs.declared.fault.StoreFault.TheVariants.{Inputs, Places, B
 use Rattle.stores.specs.declared.operation.Operation.{Operation}
 use Rattle.stores.specs.Functions.{Function, Same, combine}
 use Rattle.stores.specs.Meaning.{Meaning, at, Gained, Overfull, Stands}
+use Rattle.diagram.specs.declared.row.Node.{Node}
 use Rattle.diagram.specs.declared.row.Row.{Row}
 use Rattle.diagram.specs.declared.diagram.Diagram.{Diagram}
-use Rattle.diagram.specs.Chains.{row, HasParts, Placed}
+use Rattle.diagram.specs.Chains.{row, Placed}
 use Rattle.diagram.specs.Rows.{node, functions, top}
 use Rattle.diagram.specs.Subfunctions.{subfunctions}
 
@@ -18,20 +19,20 @@ meaning_of n len rows = record { inputs = n; most = 12; places = length rows; he
 abbrev pub diagram_meaning : Diagram → Meaning
 diagram_meaning d = meaning_of d.inputs d.len d.rows.now
 
--- where a row with these parts stands
-abbrev pub Standing : Diagram → ℕ → ℕ → ℕ → Option ℕ → Type 0
-Standing d variable low high r = Placed d.len d.rows.now variable low high r
+-- where the row with this node stands
+abbrev pub Standing : Diagram → Node → Option ℕ → Type 0
+Standing d m r = Placed d.len d.rows.now m r
 
--- A row with these parts stands behind the others, and nothing else has changed.
-pub record AppendedOf (n len : ℕ) (rows : List Row) (variable low high n' len' : ℕ) (rows' : List Row) : Type 0 where
+-- A row with this node stands behind the others, and nothing else has changed.
+pub record AppendedOf (n len : ℕ) (rows : List Row) (m : Node) (n' len' : ℕ) (rows' : List Row) : Type 0 where
   pub inputs_kept : n' ≡ n
   pub one_more : len' ≡ len + 1
   pub size_kept : length rows' ≡ length rows
   pub rows_kept : (k : ℕ) → k < len → row rows' k ≡ row rows k
-  pub row_new : HasParts (row rows' len) variable low high
+  pub row_new : (row rows' len).node ≡ m
 
-abbrev pub Appended : Diagram → ℕ → ℕ → ℕ → Diagram → Type 0
-Appended d variable low high d' = AppendedOf d.inputs d.len d.rows.now variable low high d'.inputs d'.len d'.rows.now
+abbrev pub Appended : Diagram → Node → Diagram → Type 0
+Appended d m d' = AppendedOf d.inputs d.len d.rows.now m d'.inputs d'.len d'.rows.now
 
 -- Only the first rows are left, and nothing else has changed.
 pub record CutOf (n : ℕ) (rows : List Row) (to n' len' : ℕ) (rows' : List Row) : Type 0 where

@@ -2,7 +2,7 @@
 ghost use Rattle.std.specs.Prelude.{◌≡◌, ◌<◌, ◌≤◌, min, length};
 ghost use Rattle.diagram.specs.Rows.{SoundOf};
 
-use crate::row::Row;
+use crate::row::{Node, Row};
 use stores::StoreFault;
 
 /// A store that holds each function as a diagram of rows: a row's function is that of its low handle where its variable
@@ -44,7 +44,7 @@ impl<'a> Diagram<'a> {
         if h < 2 {
             return self.inputs + 1;
         }
-        self.rows[h - 2].variable as usize
+        self.rows[h - 2].node.variable as usize
     }
 
     // What is left of a handle's function where its first variable or an earlier one, v, is 0 and where it is 1.
@@ -58,8 +58,8 @@ impl<'a> Diagram<'a> {
             return (h, h);
         }
         let row = self.rows[h - 2];
-        if row.variable as usize == v {
-            (row.low as usize, row.high as usize)
+        if row.node.variable as usize == v {
+            (row.node.low as usize, row.node.high as usize)
         } else {
             (h, h)
         }
@@ -75,13 +75,18 @@ impl<'a> Diagram<'a> {
         if low == high {
             return Ok(low);
         }
-        if let Some(h) = self.find(v as u8, low as u16, high as u16) {
+        let node = Node {
+            variable: v as u8,
+            low: low as u16,
+            high: high as u16,
+        };
+        if let Some(h) = self.find(node) {
             return Ok(h);
         }
         if self.rows.len() <= self.len {
             return Err(StoreFault::Places);
         }
-        self.append(v as u8, low as u16, high as u16);
+        self.append(node);
         Ok(self.len + 1)
     }
 
@@ -93,11 +98,11 @@ impl<'a> Diagram<'a> {
         let mut h = f;
         while h >= 2 {
             let row = self.rows[h - 2];
-            let set = (p >> (self.inputs - row.variable as usize)) % 2 == 1;
+            let set = (p >> (self.inputs - row.node.variable as usize)) % 2 == 1;
             h = if set {
-                row.high as usize
+                row.node.high as usize
             } else {
-                row.low as usize
+                row.node.low as usize
             };
         }
         h == 1
