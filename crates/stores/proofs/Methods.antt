@@ -4,13 +4,13 @@ use mathlib.Core.Bool.{and-true}
 use lib.Bits.{bit_and, bit_xor}
 use Rattle.stores.specs.declared.fault.StoreFault.{StoreFault}
 use Rattle.stores.specs.declared.operation.Operation.{Operation}
-use Rattle.stores.specs.Functions.{Same, bit, points, combine, variable, complement, joined, fixed, point}
+use Rattle.stores.specs.Functions.{Same, bit, points, combine, variable, complement, joined, fixed}
 use Rattle.stores.specs.Meaning.{Meaning, Stands, at, Yields, Takes, Joins, Flips, Fixes, cut, different}
 use Rattle.stores.specs.Words.{of_word, listed, meaning_of, alone, SoundOf}
 use Rattle.stores.proofs.Sames.{Same_sym, Same_trans, different_front}
 use Rattle.stores.proofs.Laws.{joined_same, yields_as}
 use Rattle.stores.proofs.Alone.{alone_keeps}
-use Rattle.stores.proofs.WordBits.{word_flip, fixed_same, complement_same, bit-and, bit_ones, points_le, point_below}
+use Rattle.stores.proofs.WordBits.{word_flip, fixed_same, complement_same, bit-and, bit_ones, points_le}
 use Rattle.stores.proofs.Listed.{cut_listed}
 
 module _ (n len : ℕ) (ws : List ℕ) (s : SoundOf n len ws) where
@@ -55,6 +55,3 @@ module _ (n len : ℕ) (ws : List ℕ) (s : SoundOf n len ws) where
       let i : m ≡ suc (suc (m - 2)) = omega arith in
       let e : take m (listed len ws) ≡ listed (m - 2) ws = ap (λ x. take x (listed len ws)) i ∙ cut_listed len ws (m - 2) (omega arith) in
       cc
-
-  pub value_is : (f x p : ℕ) (e : Bool) (a : ℕ) → a < 2 ^ n → p ≡ point n e a → Stands (meaning_of n len ws) f (of_word x) → bit x p ≡ at (listed len ws) f (point n e a)
-  value_is f x p e a l i t = ap (bit x) i ∙ sym (t.means (point n e a) (point_below n e a l))

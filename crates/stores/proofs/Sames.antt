@@ -1,7 +1,7 @@
 -- Laws of the tests `same` and `has`.
 use Rattle.std.proofs.Common.{◌≡◌, ℕ, zero, suc, ◌+◌, ◌<◌, Bool, true, false, not, ◌||◌, List, [], ◌∷◌, ◌++◌, length, Decides, sym, refl, ap, ◌∙◌, inl, inr, arith, pow_pos}
 use mathlib.Core.Bool.{or_assoc}
-use Rattle.std.proofs.lemmas.Bool.Decides.{Decides-below_and}
+use Rattle.std.proofs.lemmas.Bool.Decides.{Decides-below_and, same_from_decides}
 use Rattle.std.proofs.lemmas.Bool.{cases_Bool, both_ways, or_cases, or_left, or_right, or_from, or_parts, and_parts, and_from, not-true, not_from_false}
 use Rattle.stores.specs.Functions.{Function, never, always, differ, points, Same, agrees, same, constant}
 use Rattle.stores.specs.Meaning.{has, different, at}
@@ -33,10 +33,7 @@ Same_trans n f g h s t p l = s p l ∙ t p l
 
 -- two tests are equal where each gives the other
 pub both_same : (x y : Bool) → (x ≡ true → y ≡ true) → (y ≡ true → x ≡ true) → x ≡ y
-both_same true true a b = refl
-both_same true false a b = sym (a refl)
-both_same false true a b = b refl
-both_same false false a b = refl
+both_same x y a b = same_from_decides x y (a, b) (λ e. e, λ e. e)
 
 pub same_refl : (n : ℕ) (f : Function) → same n f f ≡ true
 same_refl n f = (same_tells n f f).1 (Same_refl n f)

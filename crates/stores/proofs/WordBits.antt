@@ -1,9 +1,9 @@
 -- The bits of words.
-use Rattle.std.proofs.Common.{◌≡◌, ℕ, zero, suc, ◌+◌, ◌-◌, ◌*◌, ◌/◌, ◌%◌, ◌^◌, ◌<◌, ◌≤◌, Bool, true, false, cond, not, ◌&&◌, ◌||◌, eqb, sym, refl, ap, ◌∙◌, inl, inr, mod-lt, mod-eq_of_lt, zero-add, add-one, one-add, arith, lit≤, pow_pos, pow-add, shl_exact, shr-shr, shr_lt}
-use native.Mathlib.Nat.{zero-div, add-mod_left}
+use Rattle.std.proofs.Common.{◌≡◌, ℕ, zero, suc, ◌+◌, ◌-◌, ◌*◌, ◌/◌, ◌%◌, ◌^◌, ◌<◌, ◌≤◌, Bool, true, false, cond, not, ◌&&◌, ◌||◌, eqb, min, max, sym, refl, ap, ◌∙◌, inl, inr, mod-lt, mod-eq_of_lt, zero-add, arith, lit≤, pow_pos, pow-add, shl_exact, shr-shr, shr_lt}
+use native.Mathlib.Nat.{add-mod_left}
 use Rattle.std.proofs.lemmas.Nat.{one_shl}
-use lib.Bits.{or_shifted, bit_and, bit_or, bit_xor, and_shr, or_shr, xor_shr, and_mod, or_mod, xor_mod}
-use lib.Pow.{ones_split, ones_lt, high, low, field, mod-mod-pow}
+use Rattle.std.proofs.lemmas.Nat.Bits.{bit_at_and, bit_at_or, bit_at_xor, bit_at-zero, bit_at_ones, bit_at-lt, same_from_bits_below, bit_at_cat_low, bit_at_cat_high}
+use lib.Bits.{or_shifted, bit_and, bit_or, bit_xor}
 use lib.Arith.{digits_lt}
 use Rattle.std.proofs.lemmas.Bool.Decides.{nat_tests}
 use Rattle.std.proofs.lemmas.Bool.{cases_lt}
@@ -24,80 +24,42 @@ upto_five P a b c d e f (suc (suc (suc (suc (suc (suc n)))))) h = let z : ⊥ = 
 pub points_le : (n : ℕ) → n ≤ 5 → points n ≤ 64
 points_le n h = upto_five (λ n. points n ≤ 64) (lit≤ tt) (lit≤ tt) (lit≤ tt) (lit≤ tt) (lit≤ tt) (lit≤ tt) n h
 
-odd_eq : (x y : ℕ) → eqb (x % 2) 1 ≡ eqb (y % 2) 1 → x % 2 ≡ y % 2
-odd_eq x y e = grind (arith, nat_tests)
-
-pub bit_half : (a p : ℕ) → bit (a / 2) p ≡ bit a (suc p)
-bit_half a p = ap (λ x. eqb (x % 2) 1) (shr-shr a 1 p ∙ ap (λ k. a / 2 ^ k) (one-add p))
+same_bit : (x y : ℕ) → x < 2 → y < 2 → eqb x 1 ≡ eqb y 1 → x ≡ y
+same_bit x y l m e = grind (arith, nat_tests)
 
 -- a number below 2 ^ k is known by its bits below k
 pub bit_ext : (k a b : ℕ) → a < 2 ^ k → b < 2 ^ k → ((p : ℕ) → p < k → bit a p ≡ bit b p) → a ≡ b
-bit_ext zero a b l m same = omega arith
-bit_ext (suc k) a b l m same =
-    let z : bit a 0 ≡ bit b 0 = same 0 (omega arith) in
-    let e = odd_eq (a / 2 ^ 0) (b / 2 ^ 0) z in
-    let h : a / 2 ≡ b / 2 = bit_ext k (a / 2) (b / 2) (shr_lt k 1 (rw add-one l)) (shr_lt k 1 (rw add-one m)) (λ p q. bit_half a p ∙ (same (suc p) (omega arith) ∙ sym (bit_half b p))) in
-    omega arith
+bit_ext k a b l m same = same_from_bits_below k a b l m (λ p q. same_bit _ _ (bit_at-lt a p) (bit_at-lt b p) (same p q))
 
-and_small : (x y : ℕ) → x < 2 → y < 2 → eqb (bit_and x y) 1 ≡ (eqb x 1 && eqb y 1)
-and_small zero zero l m = refl
-and_small zero (suc zero) l m = refl
-and_small (suc zero) zero l m = refl
-and_small (suc zero) (suc zero) l m = refl
-and_small (suc (suc x)) y l m = let z : ⊥ = omega arith in absurd z
-and_small zero (suc (suc y)) l m = let z : ⊥ = omega arith in absurd z
-and_small (suc zero) (suc (suc y)) l m = let z : ⊥ = omega arith in absurd z
+and_small : (x y : ℕ) → x < 2 → y < 2 → eqb (min x y) 1 ≡ (eqb x 1 && eqb y 1)
+and_small x y l m = grind (arith, nat_tests)
 
 pub bit-and : (a b p : ℕ) → bit (bit_and a b) p ≡ (bit a p && bit b p)
-bit-and a b p = rw (and_shr a b p, and_mod (a / 2 ^ p) (b / 2 ^ p) 1) (and_small (a / 2 ^ p % 2) (b / 2 ^ p % 2) (omega arith) (omega arith))
+bit-and a b p = rw (bit_at_and a b p) (and_small _ _ (bit_at-lt a p) (bit_at-lt b p))
 
-or_small : (x y : ℕ) → x < 2 → y < 2 → eqb (bit_or x y) 1 ≡ (eqb x 1 || eqb y 1)
-or_small zero zero l m = refl
-or_small zero (suc zero) l m = refl
-or_small (suc zero) zero l m = refl
-or_small (suc zero) (suc zero) l m = refl
-or_small (suc (suc x)) y l m = let z : ⊥ = omega arith in absurd z
-or_small zero (suc (suc y)) l m = let z : ⊥ = omega arith in absurd z
-or_small (suc zero) (suc (suc y)) l m = let z : ⊥ = omega arith in absurd z
+or_small : (x y : ℕ) → x < 2 → y < 2 → eqb (max x y) 1 ≡ (eqb x 1 || eqb y 1)
+or_small x y l m = grind (arith, nat_tests)
 
 pub bit-or : (a b p : ℕ) → bit (bit_or a b) p ≡ (bit a p || bit b p)
-bit-or a b p = rw (or_shr a b p, or_mod (a / 2 ^ p) (b / 2 ^ p) 1) (or_small (a / 2 ^ p % 2) (b / 2 ^ p % 2) (omega arith) (omega arith))
+bit-or a b p = rw (bit_at_or a b p) (or_small _ _ (bit_at-lt a p) (bit_at-lt b p))
 
-xor_small : (x y : ℕ) → x < 2 → y < 2 → eqb (bit_xor x y) 1 ≡ differ (eqb x 1) (eqb y 1)
-xor_small zero zero l m = refl
-xor_small zero (suc zero) l m = refl
-xor_small (suc zero) zero l m = refl
-xor_small (suc zero) (suc zero) l m = refl
-xor_small (suc (suc x)) y l m = let z : ⊥ = omega arith in absurd z
-xor_small zero (suc (suc y)) l m = let z : ⊥ = omega arith in absurd z
-xor_small (suc zero) (suc (suc y)) l m = let z : ⊥ = omega arith in absurd z
+xor_small : (x y : ℕ) → x < 2 → y < 2 → eqb ((x + y) % 2) 1 ≡ differ (eqb x 1) (eqb y 1)
+xor_small x y l m = grind (arith, nat_tests)
 
 pub bit-xor : (a b p : ℕ) → bit (bit_xor a b) p ≡ differ (bit a p) (bit b p)
-bit-xor a b p = rw (xor_shr a b p, xor_mod (a / 2 ^ p) (b / 2 ^ p) 1) (xor_small (a / 2 ^ p % 2) (b / 2 ^ p % 2) (omega arith) (omega arith))
+bit-xor a b p = rw (bit_at_xor a b p) (xor_small _ _ (bit_at-lt a p) (bit_at-lt b p))
 
 pub bit_zero : (p : ℕ) → bit 0 p ≡ false
-bit_zero p = rw (zero-div (2 ^ p))
-
-ones_odd : (j : ℕ) → 0 < j → (2 ^ j - 1) % 2 ≡ 1
-ones_odd zero l = omega arith
-ones_odd (suc j) l = let e = ones_split j 1 in let f = add-one j in rw (← f) (omega arith)
-
-ones_at : (j p : ℕ) → 0 < j → bit (2 ^ (j + p) - 1) p ≡ true
-ones_at j p l = rw (ones_split j p, high (2 ^ j - 1) p (ones_lt p), ones_odd j l)
+bit_zero p = rw (bit_at-zero p)
 
 pub bit_ones : (k p : ℕ) → p < k → bit (2 ^ k - 1) p ≡ true
-bit_ones k p l =
-    let s : k ≡ (k - p) + p = omega arith in
-    ap (λ x. bit (2 ^ x - 1) p) s ∙ ones_at (k - p) p (omega arith)
+bit_ones k p l = rw (bit_at_ones k p l)
 
 -- the bits of a number's lower part, and of its upper part
-low_at : (x j q : ℕ) → bit (x % 2 ^ ((j + 1) + q)) q ≡ bit x q
-low_at x j q = rw (field x (j + 1) q, mod-mod-pow (x / 2 ^ q) j 1)
-
 pub bit_low : (x h q : ℕ) → q < h → bit (x % 2 ^ h) q ≡ bit x q
 bit_low x h q l =
-    let s : h ≡ ((h - q - 1) + 1) + q = omega arith in
-    ap (λ k. bit (x % 2 ^ k) q) s ∙ low_at x (h - q - 1) q
+    let e : x / 2 ^ h * 2 ^ h + x % 2 ^ h ≡ x = omega (arith, pow_pos h) in
+    ap (λ y. eqb y 1) (sym (bit_at_cat_low (x / 2 ^ h) h (x % 2 ^ h) q l)) ∙ ap (λ y. bit y q) e
 
 pub bit_high : (x h q : ℕ) → bit (x / 2 ^ h) q ≡ bit x (h + q)
 bit_high x h q = rw (shr-shr x h q)
@@ -126,9 +88,9 @@ word_twice n part p f l =
     let h = 2 ^ n in
     let d = pow_double n in
     elim (cases_lt p h) [
-      | inl below ↦ sym (bit_low (part * 2 ^ h + part) h p below) ∙ (ap (λ x. bit x p) (low part h f) ∙ ap (bit part) (sym (mod-eq_of_lt below)))
+      | inl below ↦ ap (λ x. eqb x 1) (bit_at_cat_low part h part p below) ∙ ap (bit part) (sym (mod-eq_of_lt below))
       | inr above ↦ let s : p ≡ h + (p - h) = omega arith in
-          ap (bit (part * 2 ^ h + part)) s ∙ (sym (bit_high (part * 2 ^ h + part) h (p - h)) ∙ (ap (λ x. bit x (p - h)) (high part h f) ∙ ap (bit part) (sym (ap (λ x. x % h) s ∙ (add-mod_left h (p - h) ∙ mod-eq_of_lt (let q : p - h < h = omega arith in q))))))
+          ap (λ x. eqb x 1) (bit_at_cat_high part h part p f above) ∙ ap (bit part) (sym (ap (λ x. x % h) s ∙ (add-mod_left h (p - h) ∙ mod-eq_of_lt (let q : p - h < h = omega arith in q))))
     ]
 
 pub word_fix : (n w : ℕ) (b : Bool) (part : ℕ) → w < 2 ^ points n → part ≡ cond b (w / 2 ^ 2 ^ n) (w % 2 ^ 2 ^ n) → Same n (of_word (part * 2 ^ 2 ^ n + part)) (fixed n (of_word w) b)
@@ -174,32 +136,8 @@ point_below n true a l = omega (arith, pow_double n)
 point_below n false a l = omega (arith, pow_double n)
 
 -- the words of the variables
-striped : (w k j : ℕ) → agrees 64 (of_word w) (λ p. bit p j) ≡ true → k ≡ j → (p : ℕ) → p < 64 → bit w p ≡ bit p k
+pub striped : (w k j : ℕ) → agrees 64 (of_word w) (λ p. bit p j) ≡ true → k ≡ j → (p : ℕ) → p < 64 → bit w p ≡ bit p k
 striped w k j t e p l = (agrees_tells 64 (of_word w) (λ p. bit p j)).0 t p l ∙ ap (bit p) (sym e)
-
-pub stripes_0 : (k : ℕ) → k ≡ 0 → (p : ℕ) → p < 64 → bit 0xaaaa_aaaa_aaaa_aaaa p ≡ bit p k
-unfolding agrees
-stripes_0 k e = striped 0xaaaa_aaaa_aaaa_aaaa k 0 refl e
-
-pub stripes_1 : (k : ℕ) → k ≡ 1 → (p : ℕ) → p < 64 → bit 0xcccc_cccc_cccc_cccc p ≡ bit p k
-unfolding agrees
-stripes_1 k e = striped 0xcccc_cccc_cccc_cccc k 1 refl e
-
-pub stripes_2 : (k : ℕ) → k ≡ 2 → (p : ℕ) → p < 64 → bit 0xf0f0_f0f0_f0f0_f0f0 p ≡ bit p k
-unfolding agrees
-stripes_2 k e = striped 0xf0f0_f0f0_f0f0_f0f0 k 2 refl e
-
-pub stripes_3 : (k : ℕ) → k ≡ 3 → (p : ℕ) → p < 64 → bit 0xff00_ff00_ff00_ff00 p ≡ bit p k
-unfolding agrees
-stripes_3 k e = striped 0xff00_ff00_ff00_ff00 k 3 refl e
-
-pub stripes_4 : (k : ℕ) → k ≡ 4 → (p : ℕ) → p < 64 → bit 0xffff_0000_ffff_0000 p ≡ bit p k
-unfolding agrees
-stripes_4 k e = striped 0xffff_0000_ffff_0000 k 4 refl e
-
-pub stripes_5 : (k : ℕ) → k ≡ 5 → (p : ℕ) → p < 64 → bit 0xffff_ffff_0000_0000 p ≡ bit p k
-unfolding agrees
-stripes_5 k e = striped 0xffff_ffff_0000_0000 k 5 refl e
 
 -- the shifts of `repeated`
 pub half_is : (n : ℕ) → n ≤ 5 → (1 * 2 ^ n) % 4294967296 ≡ 2 ^ n
