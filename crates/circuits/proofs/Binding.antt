@@ -1,37 +1,15 @@
--- What rows cover, what they bind, and counting the outputs that miss theirs.
-use Rattle.std.proofs.Common.{◌≡◌, ℕ, zero, suc, ◌+◌, ◌-◌, ◌<◌, ◌≤◌, Bool, true, false, cond, not, ◌&&◌, ◌⊎◌, List, [], ◌∷◌, length, get_or, drop, Some, None, Option, unwrap_or, sym, refl, ap, ◌∙◌, inl, inr, ⊎_elim, add-one, arith}
+-- What outputs meet, and counting those that miss their rows.
+use Rattle.std.proofs.Common.{◌≡◌, ℕ, zero, suc, ◌+◌, ◌<◌, ◌≤◌, Bool, true, false, cond, not, ◌⊎◌, List, [], ◌∷◌, length, get_or, drop, Some, None, Option, unwrap_or, sym, refl, ap, ◌∙◌, inl, inr, ⊎_elim, add-one, arith}
 use Rattle.std.specs.Option.{option_map}
 use Rattle.std.specs.List.{slice_get}
-use Rattle.std.proofs.lemmas.List.{drop_more, drop_all, length-drop}
+use Rattle.std.proofs.lemmas.List.{drop_more, drop_all}
 use Rattle.std.proofs.lemmas.Option.{slice_get-get_or}
 use Rattle.std.proofs.lemmas.Bool.{and_left, and_right, and_from, both_ways, cases_Bool, cases_order}
 use Rattle.circuits.specs.declared.gate.Output.{Output}
-use Rattle.circuits.specs.declared.literal.Literal.{Literal}
 use Rattle.circuits.specs.declared.pin.Pin.{Pin}
 use Rattle.circuits.specs.declared.row.SpecRow.{SpecRow}
-use Rattle.circuits.specs.Circuits.{Net, bit, assignments, carried, through}
-use Rattle.circuits.specs.Specification.{matches, covers, bound, obeys, each_below, meets, misses, misses_from}
-
--- a literal that does not match decides
-covers_step :
-    (ls : List Literal) (a i m : ℕ) (d : Literal) → i < length ls → m ≡ length ls - 1 - i → covers (drop i ls) a ≡ (matches (get_or ls i d) (bit a m) && covers (drop (i + 1) ls) a)
-unfolding covers
-covers_step ls a i m d h e =
-    let n : length (drop (i + 1) ls) ≡ m = length-drop (i + 1) ls ∙ omega arith in
-    ap (λ xs. covers xs a) (drop_more ls i d h) ∙ ap (λ k. matches (get_or ls i d) (bit a k) && covers (drop (i + 1) ls) a) n
-
-pub covers_not :
-    (ls : List Literal) (a i m : ℕ) (d : Literal) → i < length ls → m ≡ length ls - 1 - i → matches (get_or ls i d) (bit a m) ≡ false → covers (drop i ls) a ≡ false
-covers_not ls a i m d h e f = covers_step ls a i m d h e ∙ ap (λ b. b && covers (drop (i + 1) ls) a) f
-
--- and after one that does, the others
-pub covers_more :
-    (ls : List Literal) (a i m : ℕ) (d : Literal) → i < length ls → m ≡ length ls - 1 - i → matches (get_or ls i d) (bit a m) ≡ true → covers (drop i ls) a ≡ covers (drop (i + 1) ls) a
-covers_more ls a i m d h e f = covers_step ls a i m d h e ∙ ap (λ b. b && covers (drop (i + 1) ls) a) f
-
-pub covers_none : (ls : List Literal) (a i : ℕ) → length ls ≤ i → covers (drop i ls) a ≡ true
-unfolding covers
-covers_none ls a i h = ap (λ xs. covers xs a) (drop_all i ls h)
+use Rattle.circuits.specs.Circuits.{Net, assignments, carried, through}
+use Rattle.circuits.specs.Specification.{bound, obeys, each_below, meets, misses, misses_from}
 
 cases_last : (k n : ℕ) → k < suc n → (k ≡ n) ⊎ (k < n)
 cases_last k n h = ⊎_elim inl (⊎_elim inr (λ g. let z : ⊥ = omega arith in absurd z)) (cases_order k n)

@@ -1,12 +1,12 @@
 -- Working out a circuit gate by gate, with nothing put into it.
-use Rattle.std.proofs.Common.{◌≡◌, ℕ, zero, suc, ◌+◌, ◌-◌, ◌<◌, ◌≤◌, Bool, true, false, cond, ltb, List, [], ◌∷◌, ◌++◌, map, length, get_or, take, drop, set, sym, refl, ap, ◌∙◌, add-one, arith}
-use Rattle.std.proofs.lemmas.List.{take_more_set, drop_more, drop_all, map_more, length-set, length-drop, length-take-le, length_push, append_assoc, append-nil}
+use Rattle.std.proofs.Common.{◌≡◌, ℕ, zero, suc, ◌+◌, ◌-◌, ◌<◌, ◌≤◌, Bool, true, ltb, List, [], ◌∷◌, ◌++◌, map, length, get_or, take, drop, set, sym, refl, ap, ◌∙◌, add-one, arith}
+use Rattle.std.proofs.lemmas.List.{take_more_set, drop_more, drop_all, length-set, length-drop, length-take-le, length_push, append_assoc, append-nil}
 use Rattle.std.proofs.lemmas.Bool.{and_parts, ltb-true}
 use Rattle.circuits.specs.declared.gate.Gate.{Gate}
 use Rattle.circuits.specs.declared.gate.Output.{Output}
 use Rattle.circuits.specs.declared.name.Name.{Name}
 use Rattle.circuits.specs.declared.pin.Pin.{Pin}
-use Rattle.circuits.specs.Kinds.{fits, ones, gate_bit}
+use Rattle.circuits.specs.Kinds.{fits, gate_bit}
 use Rattle.circuits.specs.Circuits.{Net, pins_of, Put, nothing, gate_stem, bit, through, received, input_stems, worked_out, stems_with, carried}
 use Rattle.circuits.specs.Legality.{pins_read, gate_legal, gates_legal, outputs_legal}
 use Rattle.circuits.specs.Lines.{stem_count}
@@ -25,24 +25,6 @@ pub received_each : (g i : ℕ) (stems : List Bool) (ps : List Pin) → received
 unfolding received
 received_each g i stems [] = refl
 received_each g i stems (p ∷ ps) = ap (λ bs. through p stems ∷ bs) (received_each g (suc i) stems ps)
-
-pub ones_push : (bs : List Bool) (b : Bool) → ones (bs ++ b ∷ []) ≡ ones bs + cond b 1 0
-unfolding ones
-ones_push [] b = omega arith
-ones_push (x ∷ bs) b = omega (arith, ones_push bs b)
-
--- how many of the first i pins get 1, and with one pin more
-abbrev pub Counted : List Bool → List Pin → ℕ → ℕ → Type 0
-Counted stems ps i n = (n ≤ i) × (n ≡ ones (map (λ (p : Pin). through p stems) (take i ps)))
-
-pub counted_more :
-    (stems : List Bool) (ps : List Pin) (i n m : ℕ) (d : Pin) (b : Bool) → i < length ps → Counted stems ps i n → b ≡ through (get_or ps i d) stems → m ≡ n + cond b 1 0 → Counted stems ps (i + 1) m
-counted_more stems ps i n m d b h (few, count) e sum =
-    let one : cond b 1 0 ≤ 1 = elim b as (λ x. cond x 1 0 ≤ 1) [ true ↦ omega arith | false ↦ omega arith ] in
-    let t : ones (map (λ (p : Pin). through p stems) (take (i + 1) ps)) ≡ ones (map (λ (p : Pin). through p stems) (take i ps)) + cond b 1 0 =
-    rw (map_more (λ (p : Pin). through p stems) ps i d h, ← e) (ones_push (map (λ (p : Pin). through p stems) (take i ps)) b)
-    in
-    (omega arith, omega arith)
 
 -- a pin reads an earlier stem
 pub pin_reads : (s : ℕ) (ps : List Pin) (i : ℕ) (d : Pin) → pins_read s ps ≡ true → i < length ps → (get_or ps i d).stem < s

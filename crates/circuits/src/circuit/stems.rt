@@ -21,17 +21,10 @@ impl Pin {
 
 // How many of a gate's pins receive 1.
 fn count_ones(pins: &[Pin], stems: &[bool]) -> usize
-    requires few { length pins.now ≤ 4 }
-    requires earlier { pins_read (length stems.now) pins.now ≡ true }
+    requires { pins_read (length stems.now) pins.now ≡ true }
     ensures { (g : ℕ) → result ≡ ones (received nothing g 0 stems.now pins.now) }
 {
-    let mut count = 0;
-    for pin in pins {
-        if pin.get(stems) {
-            count += 1;
-        }
-    }
-    count
+    pins.iter().filter(|pin| pin.get(stems)).count()
 }
 
 impl Gate {

@@ -23,14 +23,11 @@ impl Pattern {
     fn covers(&self, assignment: usize) -> bool
         ensures { result ≡ covers (literal_list self.now) assignment }
     {
-        let literals = self.as_slice();
-        let inputs = literals.len();
-        for i in 0..inputs {
-            if !literals[i].matches((assignment >> (inputs - 1 - i)) % 2 == 1) {
-                return false;
-            }
-        }
-        true
+        self.as_slice()
+            .iter()
+            .rev()
+            .enumerate()
+            .all(|(k, literal)| literal.matches((assignment >> k) % 2 == 1))
     }
 }
 

@@ -1,26 +1,30 @@
-use Rattle.std.proofs.Common.{length, sym, refl, ap, ◌∙◌, arith}
+use Rattle.std.proofs.Common.{ℕ, ◌<◌, length, ap, arith, rules, tests}
+use Rattle.std.proofs.lemmas.Iterator.Adapters.{YieldsList-from_rev_slice, serves_from_places}
+use Rattle.std.proofs.lemmas.Iterator.Consumers.{YieldsList-from_enumerate, YieldsList-at}
+use Rattle.std.proofs.lemmas.Iterator.Search.{all_from_yields_List}
+use Rattle.circuits.specs.Circuits.{bit}
+use Rattle.circuits.specs.declared.literal.Literal.{Literal}
+use Rattle.circuits.specs.Specification.{matches}
 use Rattle.circuits.specs.Patterns.{is_dash}
-use Rattle.circuits.specs.Specification.{covers}
-use Rattle.circuits.proofs.Binding.{covers_not, covers_more, covers_none}
 use Rattle.circuits.proofs.Fronts.{front_parts, front_length}
+use Rattle.circuits.proofs.Recursions.{covers_all, place_below}
 use Rattle.circuits.proofs.row.Pattern.covers.Goals as goal
 
-pub overflow_shr-assignment : goal.overflow_shr-assignment
-overflow_shr-assignment c =
-    let f = front_parts is_dash 12 c.args.self.now.literals c.args.self.now.len c.args.self.now.good in
-    omega (arith, f.within, front_length is_dash 12 c.args.self.now.literals c.args.self.now.len f, ap length c.as_slice-literals.ensures)
-
-pub returns-then-not-matches : goal.returns-then-not-matches
-returns-then-not-matches c =
-    sym
-    (ap (λ ls. covers ls c.args.assignment) (sym c.as_slice-literals.ensures)
-    ∙ (c.loop-i.invariant
-    ∙ covers_not c.as_slice-literals.result.now c.args.assignment c.loop-i.i _ _ (omega arith) refl (sym c.if-not-matches.ensures)))
-
-pub loop-i-preserved : goal.loop-i-preserved
-loop-i-preserved c =
-    c.loop-i.invariant ∙ covers_more c.as_slice-literals.result.now c.args.assignment c.loop-i.i _ _ (omega arith) refl (sym c.if-not-matches.ensures)
+-- the literals from the last on, each with its number
+pub all-requires-clause-callable : goal.all-requires-clause-callable
+all-requires-clause-callable c =
+    let self = c.args.self.now in
+    let f = front_parts is_dash 12 self.literals self.len self.good in
+    serves_from_places
+    (YieldsList-from_enumerate (YieldsList-at c.enumerate.ensures.source (YieldsList-from_rev_slice c.as_slice.result.now cc)) (cc)) (λ x q k. search (rules, tests))
+    (λ x k h e.
+    let small : x.0 < 64 =
+    omega (arith, place_below c.as_slice.result.now k (x.0, x.1.now) h e, f.within, front_length is_dash 12 self.literals self.len f, ap length c.as_slice.ensures)
+    in
+    search rules)
 
 pub returns : goal.returns
 returns c =
-    sym (ap (λ ls. covers ls c.args.assignment) (sym c.as_slice-literals.ensures) ∙ (c.loop-i.invariant ∙ covers_none c.as_slice-literals.result.now c.args.assignment c.loop-i.i (omega arith)))
+    rw (← c.as_slice.ensures, covers_all)
+    (all_from_yields_List (λ (p : ℕ × Literal). matches p.1 (bit c.args.assignment p.0)) c.all.new.self _ _ c.all.ensures.ran
+    (YieldsList-from_enumerate (YieldsList-at c.enumerate.ensures.source (YieldsList-from_rev_slice c.as_slice.result.now cc)) (cc)) (λ x b q k. search (rules, tests)))
