@@ -14,20 +14,17 @@ use Rattle.memo.specs.declared.call.Entry.{Entry}
 use Rattle.memo.specs.Calls.{asked, Fits, Asks}
 use Rattle.memo.specs.Memos.{Right}
 
-at_take : (k : ℕ) (L M : List Function) → take k L ≡ take k M → (h : ℕ) → h < k → at L h ≡ at M h
-at_take k L M e h l = sym (get_or-take k L h never l) ∙ (ap (λ x. get_or x h never) e ∙ get_or-take k M h never l)
-
 -- two meanings that agree on their inputs and their first k functions
 module _ (m m' : Meaning) (k : ℕ) (inputs : m'.inputs ≡ m.inputs) (first : take k m'.held ≡ take k m.held) where
   same_at : (h : ℕ) → h < k → at m'.held h ≡ at m.held h
-  same_at h l = at_take k m'.held m.held first h l
+  same_at h l = sym (get_or-take k m'.held h never l) ∙ (ap (λ x. get_or x h never) first ∙ get_or-take k m.held h never l)
 
   -- ask the same
-  pub asked_same : (c : Call) → Fits m k c → asked m' c ≡ asked m c
-  asked_same (Join op f g) (l, r) = ap (λ x. joined op x (at m'.held g)) (same_at f l) ∙ ap (joined op (at m.held f)) (same_at g r)
-  asked_same (Flip f) l = ap complement (same_at f l)
-  asked_same (Fix f b) l = ap (λ n. fixed n (at m'.held f) b) inputs ∙ ap (λ x. fixed m.inputs x b) (same_at f l)
-  asked_same (Variable v) l = ap (λ n. variable n v) inputs
+  asked_same : (c : Call) → Fits m k c → asked m' c ≡ asked m c
+  asked_same (Join op f g) (l, r) = rw (same_at f l, same_at g r)
+  asked_same (Flip f) l = rw (same_at f l)
+  asked_same (Fix f b) l = rw (inputs, same_at f l)
+  asked_same (Variable v) l = rw inputs
 
 fits_more : (m m' : Meaning) (k k' : ℕ) → m'.inputs ≡ m.inputs → k ≤ k' → (c : Call) → Fits m k c → Fits m' k' c
 fits_more m m' k k' i l (Join op f g) (x, y) = (omega arith, omega arith)
@@ -36,11 +33,11 @@ fits_more m m' k k' i l (Fix f b) x = omega arith
 fits_more m m' k k' i l (Variable v) x = omega arith
 
 -- An entry stays right while the functions of its time are held.
-pub right_moved : (rule : Rule) (m m' : Meaning) (e : Entry) → m'.inputs ≡ m.inputs → take e.length m'.held ≡ take e.length m.held → e.length ≤ length m'.held → Right rule m e → Right rule m' e
+right_moved : (rule : Rule) (m m' : Meaning) (e : Entry) → m'.inputs ≡ m.inputs → take e.length m'.held ≡ take e.length m.held → e.length ≤ length m'.held → Right rule m e → Right rule m' e
 right_moved rule m m' e inputs first within r =
     let k = e.length in
     let same : asked m' e.call ≡ asked m e.call = asked_same m m' k inputs first e.call r.fits in
-    let here : at m'.held e.answer ≡ at m.held e.answer = at_take k m'.held m.held first e.answer r.held in
+    let here : at m'.held e.answer ≡ at m.held e.answer = same_at m m' k inputs first e.answer r.held in
     record {
       within = within;
       fits = fits_more m m' k k inputs (omega arith) e.call r.fits;

@@ -12,7 +12,7 @@ use Rattle.stores.proofs.Laws.{good_gained, good_cut, yields_grown}
 use Rattle.memo.specs.declared.call.Call.{Call}
 use Rattle.memo.specs.declared.call.Entry.{Entry}
 use Rattle.memo.specs.Calls.{place_of, Asks}
-use Rattle.memo.specs.Memos.{Right, SoundMemo, Remembered, Memoized, Forgets, entry_at, left_of}
+use Rattle.memo.specs.Memos.{Right, SoundMemo, Remembered, Recalled, Memoized, Forgets, entry_at, left_of}
 use Rattle.memo.proofs.Entries.{right_grown, right_cut, recalled_asks, only_answer}
 
 -- A store stays lawful.
@@ -53,10 +53,7 @@ pub sound_none : (rule : Rule) (m : Meaning) → Lawful rule m → SoundMemo rul
 sound_none rule m w = record {
   many = length-replicate {A = Option Entry} 64 None;
   lawful = w;
-  right = λ i e h. let n = entry_none i in
-      let z : ◌≡◌ {A = ℕ} 0 1 = cc in
-      let out : ⊥ = omega arith in
-      absurd out;
+  right = λ i e h. let n = entry_none i in cc;
 }
 
 -- A start that is granted leaves false and true.
@@ -66,16 +63,10 @@ lawful_started rule m m' n w l e =
 
 -- what is left of an entry stood there, and ended with no longer list
 left_some : (k : ℕ) (x : Option Entry) (e : Entry) → left_of k x ≡ Some e → (x ≡ Some e) × (e.length ≤ k)
-left_some k None e h =
-    let z : ◌≡◌ {A = ℕ} 0 1 = cc in
-    let out : ⊥ = omega arith in
-    absurd out
+left_some k None e h = cc
 left_some k (Some x) e h =
     elim (cases_Bool (ltb k x.length)) [
-      | inl t ↦ let h' : ◌≡◌ {A = Option Entry} None (Some e) = rw t at h in
-          let z : ◌≡◌ {A = ℕ} 0 1 = cc in
-          let out : ⊥ = omega arith in
-          absurd out
+      | inl t ↦ let h' : ◌≡◌ {A = Option Entry} None (Some e) = rw t at h in cc
       | inr f ↦ let h' : Some x ≡ Some e = rw f at h in
           let eq : x ≡ e = cc in
           (h', subst (λ y. y.length ≤ k) eq (ltb-false k x.length f))
@@ -89,27 +80,23 @@ sound_cut rule m m' es es' k two e f s =
       right = λ i x h. let (there, l) = left_some k (entry_at es i) x (sym (f.each i) ∙ h) in right_cut rule m k x l (s.right i x there);
     })
 
-module _ {B : Type 0} (rule : Rule) (m : Meaning) (call : Call) (b : B) (es : List (Option Entry)) (s : SoundMemo rule m es) where
-  -- a call that is remembered
-  module _ (h : ℕ) (e : Entry) (r : Remembered es call e) (is : h ≡ e.answer) where
-    pub recall_asks : Asks rule m call (Ok h) m
-    recall_asks =
-        subst (λ x. Asks rule m call (Ok x) m) (sym is) (subst (λ x. Asks rule m x (Ok e.answer) m) r.1 (recalled_asks rule m e s.lawful (s.right (place_of call) e r.0)))
+-- a call that is remembered
+module _ {B : Type 0} (rule : Rule) (m : Meaning) (call : Call) (b : B) (es : List (Option Entry)) (s : SoundMemo rule m es) (h : ℕ) (x : Recalled es call (Some h)) where
+  pub recall_asks : Asks rule m call (Ok h) m
+  recall_asks = rw (x.2, ← x.1.1) (recalled_asks rule m x.0 s.lawful (s.right (place_of call) x.0 x.1.0))
 
-    pub recall_memoized : Memoized rule m call b es (Ok h) m b es
-    recall_memoized = record {
-      recalled = λ x q. (ap Ok (is ∙ ap (λ y. y.answer) (only x q)), refl, refl);
-      as_below = λ x q t n y.
-          let a = only_answer rule m e s.lawful (s.right (place_of call) e r.0) t n (subst (λ z. Asks rule m z t n) (sym r.1) y) in
-          (a.0 ∙ ap Ok (sym is), a.1);
-      newest = λ f. absurd (f e r);
-      refused = λ f q. let z : ◌≡◌ {A = ℕ} 0 1 = cc in
-          let out : ⊥ = omega arith in
-          absurd out;
-    }
-      where
-        only : (x : Entry) → Remembered es call x → e ≡ x
-        only x q =
-            let p = q.0 in
-            let o = r.0 in
-            cc
+  only : (y : Entry) → Remembered es call y → x.0 ≡ y
+  only y q =
+      let p = q.0 in
+      let o = x.1.0 in
+      cc
+
+  pub recall_memoized : Memoized rule m call b es (Ok h) m b es
+  recall_memoized = record {
+    recalled = λ y q. (ap Ok (x.2 ∙ ap (λ z. z.answer) (only y q)), refl, refl);
+    as_below = λ y q t n a.
+        let o = only_answer rule m x.0 s.lawful (s.right (place_of call) x.0 x.1.0) t n (rw (← x.1.1) at a) in
+        (o.0 ∙ ap Ok (sym x.2), o.1);
+    newest = λ f. absurd (f x.0 x.1);
+    refused = λ f q. cc;
+  }

@@ -6,8 +6,7 @@ use Rattle.memo.proofs.memo.Memo.answer.Goals as goal
 pub returns-in-Some : goal.returns-in-Some
 returns-in-Some g c =
     let v = c.args.self.now in
-    let (e, r, is) = c.in-Some.ensures in
-    record { asks = recall_asks _ _ _ v.below v.entries v.sound _ e r is; memo = recall_memoized _ _ _ v.below v.entries v.sound _ e r is }
+    record { asks = recall_asks _ _ _ v.below _ v.sound _ c.in-Some.ensures; memo = recall_memoized _ _ _ v.below _ v.sound _ c.in-Some.ensures }
 
 pub invariant_of-self-2 : goal.invariant_of-self-2
 invariant_of-self-2 g c =
