@@ -4,7 +4,7 @@ use Rattle.std.proofs.lemmas.List.{take-append-le, take-take, take_all}
 use Rattle.std.proofs.lemmas.Bool.{both_ways, or_left, or_right, or_cases, or_parts, or_from, and_parts, not-true}
 use Rattle.stores.specs.declared.fault.StoreFault.{StoreFault}
 use Rattle.stores.specs.declared.fault.StoreFault.TheVariants.{Inputs, Places, Bounds}
-use Rattle.stores.specs.Functions.{Function, never, same, variable, complement, joined, fixed}
+use Rattle.stores.specs.Functions.{Function, never, same}
 use Rattle.stores.specs.Meaning.{Meaning, Rule, Lawful, Grown, Gained, Stands, at, has, different, kept, cut}
 use Rattle.stores.proofs.Sames.{has_append, same_sym, same_refl}
 use Rattle.stores.proofs.Laws.{held_already, gained_fits, grown_longer, stands_once, kept_one}

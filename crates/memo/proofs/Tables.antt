@@ -1,46 +1,33 @@
 -- What keeps the entries of a memo right, and what its calls make of them.
-use Rattle.std.proofs.Common.{◌≡◌, ℕ, ◌<◌, ◌≤◌, ltb, List, [], ◌∷◌, length, set, replicate, Some, None, Ok, Err, Option, Result, sym, refl, ap, ◌∙◌, subst, inl, inr, arith, length-set, get_or-set_other, get_or-set_same}
+use Rattle.std.proofs.Common.{◌≡◌, ℕ, ◌<◌, ◌≤◌, ltb, List, [], ◌∷◌, length, set, replicate, Some, None, Ok, Option, sym, refl, ap, ◌∙◌, subst, inl, inr, arith, length-set, get_or-set_other}
 use lib.ListN.{length-replicate}
+use Rattle.std.proofs.lemmas.Grind.{get_or-set_at}
 use Rattle.std.proofs.lemmas.List.{get_or-replicate, get_or_past}
 use Rattle.std.proofs.lemmas.Bool.{cases_eq, cases_lt, cases_Bool, ltb-false}
-use Rattle.stores.specs.declared.fault.StoreFault.{StoreFault}
-use Rattle.stores.specs.declared.fault.StoreFault.TheVariants.{Inputs, Places, Bounds}
 use Rattle.stores.specs.Functions.{never, always}
 use Rattle.stores.specs.Meaning.{Meaning, Rule, Lawful, cut}
 use Rattle.stores.proofs.Sames.{constants_differ}
-use Rattle.stores.proofs.Laws.{good_gained, good_cut, yields_grown}
+use Rattle.stores.proofs.Laws.{good_cut}
 use Rattle.memo.specs.declared.call.Call.{Call}
 use Rattle.memo.specs.declared.call.Entry.{Entry}
 use Rattle.memo.specs.Calls.{place_of, Asks}
 use Rattle.memo.specs.Memos.{Right, SoundMemo, Remembered, Recalled, Memoized, Forgets, entry_at, left_of}
-use Rattle.memo.proofs.Entries.{right_grown, right_cut, recalled_asks, only_answer}
+use Rattle.memo.proofs.Entries.{right_grown, right_cut, right_new, recalled_asks, only_answer}
 
--- A store stays lawful.
-lawful_after : (rule : Rule) (m m' : Meaning) (call : Call) (r : Result ℕ StoreFault) → Lawful rule m → Asks rule m call r m' → Lawful rule m'
-lawful_after rule m m' call (Ok h) w y = record { good = good_gained rule m m' _ w.good y.1; keeps = w.keeps }
-lawful_after rule m m' call (Err Inputs) w y = absurd y
-lawful_after rule m m' call (Err Places) w y = subst (Lawful rule) (sym y.2) w
-lawful_after rule m m' call (Err Bounds) w y = subst (Lawful rule) (sym y.1) w
-
--- The entries stay right, whatever the store below answers.
-pub sound_after : (rule : Rule) (m m' : Meaning) (es : List (Option Entry)) (call : Call) (r : Result ℕ StoreFault) → Asks rule m call r m' → SoundMemo rule m es → SoundMemo rule m' es
-sound_after rule m m' es call r y s =
-    record { many = s.many; lawful = lawful_after rule m m' call r s.lawful y; right = λ i e h. right_grown rule m m' e (yields_grown rule m m' _ _ _ r y) (s.right i e h) }
-
--- One more entry, in the place of another.
-pub sound_more : (rule : Rule) (m : Meaning) (es : List (Option Entry)) (p : ℕ) (x : Entry) → p < 64 → Right rule m x → SoundMemo rule m es → SoundMemo rule m (set es p (Some x))
-sound_more rule m es p x l r s = record {
-  many = length-set es p (Some x) ∙ s.many;
-  lawful = s.lawful;
-  right = λ i e h. elim (cases_eq i p) [
-    | inl same ↦ let w = s.many in
-        let fit : p < length es = omega arith in
-        let here : Some x ≡ Some e = sym (get_or-set_same es p (Some x) None fit) ∙ subst (λ j. entry_at (set es p (Some x)) j ≡ Some e) same h in
-        let eq : x ≡ e = cc in
-        subst (Right rule m) eq r
-    | inr apart ↦ s.right i e (sym (get_or-set_other es p i (Some x) None apart) ∙ h)
-  ];
-}
+-- The entries stay right with a new one in the place of another, once the store below granted a call.
+pub sound_new : (rule : Rule) (m m' : Meaning) (es : List (Option Entry)) (call : Call) (h n p : ℕ) → p < 64 → n ≡ length m'.held → Lawful rule m' → Asks rule m call (Ok h) m' → SoundMemo rule m es → SoundMemo rule m' (set es p (Some (record { call = call; answer = h; length = n })))
+sound_new rule m m' es call h n p l k w y s =
+    let x : Entry = record { call = call; answer = h; length = n } in
+    record {
+      many = length-set es p (Some x) ∙ s.many;
+      lawful = w;
+      right = λ i e q. elim (cases_eq i p) [
+        | inl same ↦ let here : Some x ≡ Some e = sym (get_or-set_at es p i (Some x) None same (omega (arith, s.many))) ∙ q in
+            let eq : x ≡ e = cc in
+            subst (Right rule m') eq (right_new rule m m' call h n k y)
+        | inr apart ↦ right_grown rule m m' e y.1.grown (s.right i e (sym (get_or-set_other es p i (Some x) None apart) ∙ q))
+      ];
+    }
 
 entry_none : (i : ℕ) → entry_at (replicate 64 None) i ≡ None
 entry_none i =
