@@ -12,8 +12,7 @@ fn yields(call: Call) -> bool {
 }
 
 // A number that tells a held function's truth table, point by point.
-fn digest<S: Store>(store: &S, h: usize, inputs: usize) -> u64
-{
+fn digest<S: Store>(store: &S, h: usize, inputs: usize) -> u64 {
     let mut digest = 7u64;
     for e in [false, true] {
         for a in 0..1usize << inputs.min(12) {
