@@ -18,6 +18,7 @@ impl StoreFault {
     pub fn number(self) -> usize
         ensures { result ≡ store_number self }
     {
+        // The project's rule fixes these numbers, and they do not follow from the variants' order.
         match self {
             StoreFault::Inputs => 9,
             StoreFault::Places => 10,

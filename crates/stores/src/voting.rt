@@ -22,6 +22,7 @@ fn majority_parts<S: Store>(s: &mut S, a: usize, b: usize, c: usize) -> Result<u
 }
 
 /// Yields the majority of three held functions by joins, one after the other. A refusal leaves the list as it was.
+#[tactic(auto, using(crate::proofs::Orders::laws))]
 pub fn majority<S: Store>(s: &mut S, a: usize, b: usize, c: usize) -> Result<usize, StoreFault>
     ensures laws { Laws S.keeping }
     ensures yields { Yields S.keeping (S.meaning s.old) (AllHeld (S.meaning s.old) a b c) (steps_at (S.meaning s.old) a b c) (majority_at (S.meaning s.old) a b c) result (S.meaning s.new) }
@@ -30,11 +31,9 @@ pub fn majority<S: Store>(s: &mut S, a: usize, b: usize, c: usize) -> Result<usi
     if before <= a || before <= b || before <= c {
         return Err(StoreFault::Bounds);
     }
-    match majority_parts(s, a, b, c) {
-        Ok(h) => Ok(h),
-        Err(fault) => {
-            let _ = s.release(before);
-            Err(fault)
-        }
+    let made = majority_parts(s, a, b, c);
+    if made.is_err() {
+        let _ = s.release(before);
     }
+    made
 }

@@ -15,6 +15,7 @@ use bits::{combined, full, repeated, stripes};
 /// inputs, has a place in each of the words that it is lent, and keeps each function alone.
 #[derive(Drop)]
 pub struct Words<'a> {
+    // The first len of the lent words are in use: a store takes no memory of its own.
     words: &'a mut [u64],
     len: usize,
     inputs: usize,
@@ -50,7 +51,8 @@ impl<'a> Words<'a> {
         }
     }
 
-    // The handle of a word's function, if it is held.
+    // The handle of a word's function, if it is held. That the word fits is asked: a type of words would hold the number
+    // of inputs once more.
     fn find(&self, w: u64) -> Option<usize>
         requires fits { w < 2 ^ points self.now.inputs }
         ensures { Found (words_meaning self.now) (of_word w) result }
@@ -81,7 +83,7 @@ impl<'a> Words<'a> {
     }
 }
 
-// The first place of a word among words.
+// The first place of a word among words. It is apart from `find`, which reads its clause.
 fn place(words: &[u64], w: u64) -> Option<usize>
     ensures { result ≡ position (λ x. x == w) words.now }
 {
@@ -95,6 +97,7 @@ impl Store for Words<'_> {
 
     ghost keeping = { alone };
 
+    #[tactic(auto, using(crate::proofs::Keeping::new_sound))]
     fn start(&mut self, inputs: usize) -> Result<(), StoreFault> {
         if inputs == 0 || 5 < inputs {
             return Err(StoreFault::Inputs);
@@ -138,6 +141,7 @@ impl Store for Words<'_> {
         Ok((w >> p) % 2 == 1)
     }
 
+    #[tactic(auto, using(crate::proofs::Listed::good_words, crate::proofs::Alone::alone_keeps))]
     fn length(&self) -> usize {
         self.len + 2
     }
