@@ -1,7 +1,12 @@
--- Lists at the front of a table.
-use Rattle.std.proofs.Common.{◌≡◌, ℕ, ◌+◌, ◌<◌, ◌≤◌, Bool, true, ◌&&◌, eqb, leb, List, [], ◌∷◌, ◌++◌, length, get_or, take, drop, set, ◌∙◌, subst, arith}
-use Rattle.std.proofs.lemmas.List.{take_more_set, drop_more, drop-set-lt, length-set, length-take-le}
+-- Lists at the front of a table, and short lists.
+use lib.ListN.{replicate}
+use Rattle.std.proofs.Common.{◌≡◌, ℕ, zero, suc, ◌+◌, ◌<◌, ◌≤◌, Bool, true, ◌&&◌, eqb, leb, List, [], ◌∷◌, ◌++◌, length, get_or, take, drop, set, Ok, Err, Result, refl, ◌∙◌, subst, arith}
+use Rattle.std.specs.Result.{IsOk, MatchResult}
+use Rattle.std.proofs.lemmas.List.{take_more_set, drop_more, drop-set-lt, length-set, length-take-le, length-replicate}
 use Rattle.std.proofs.lemmas.Bool.{and_parts, and_from, leb-true, le-leb, eqb-true, eq-eqb}
+use Rattle.circuits.specs.declared.short.Blank.{Ghosts}
+use Rattle.circuits.specs.declared.short.Short.{Short}
+use Rattle.circuits.specs.Shorts.{entries}
 use Rattle.circuits.specs.Tables.{all_blank, holds_front}
 
 module _ {X : Type 0} (blank : X → Bool) (size : ℕ) where
@@ -43,3 +48,30 @@ module _ {X : Type 0} (blank : X → Bool) (size : ℕ) where
   -- the list with one entry more
   pub front_list : (table : List X) (len : ℕ) (x : X) → len < size → Front table len → take (len + 1) (set table len x) ≡ take len table ++ x ∷ []
   front_list table len x h f = take_more_set table len x (omega arith)
+
+module _ {X : Type 0} {size : ℕ} {blank : Ghosts X} (s : Short X size blank) where
+  pub front : Front blank.is_blank size s.table s.len
+  front = front_parts blank.is_blank size s.table s.len s.good
+
+  -- how many entries there are,
+  pub entries_length : length (entries s) ≡ s.len
+  entries_length = front_length blank.is_blank size s.table s.len front
+
+  -- which is at most the size
+  pub few : length (entries s) ≤ size
+  few = let f = front in let e = entries_length in omega arith
+
+-- a table that is blank throughout
+all_blank_replicate : {X : Type 0} (blank : X → Bool) (size : ℕ) (x : X) → blank x ≡ true → all_blank blank (replicate size x) ≡ true
+unfolding all_blank
+all_blank_replicate blank zero x h = refl
+all_blank_replicate blank (suc n) x h = and_from (blank x) (all_blank blank (replicate n x)) h (all_blank_replicate blank n x h)
+
+pub blank_front : {X : Type 0} (blank : X → Bool) (size : ℕ) (x : X) → blank x ≡ true → holds_front blank size (replicate size x) 0 ≡ true
+blank_front blank size x h =
+    front_from blank size (replicate size x) 0 (record { long = length-replicate size x; within = omega arith; rest = all_blank_replicate blank size x h })
+
+-- an entry that there is room for is taken
+pub taken : {E : Type 0} (P Q : Type 0) (r : Result Unit E) → MatchResult r (λ _. P) (λ _. Q) → (Q → ⊥) → IsOk r
+taken P Q (Ok x) h full = refl
+taken P Q (Err e) h full = absurd (full h)

@@ -12,7 +12,8 @@ use Rattle.circuits.specs.declared.place.Place.{Place}
 use Rattle.circuits.specs.declared.place.Place.TheVariants.{Stem, Pin as GatePin}
 use Rattle.circuits.specs.Circuits.{Net, pins_of, nothing, assignments, carried}
 use Rattle.circuits.specs.Lines.{stem_count, pin_count, line_count, pin_at, line_of, pin_place, place_of, line_bit}
-use Rattle.circuits.proofs.Working.{pins_few, stems_length}
+use Rattle.circuits.proofs.Fronts.{few}
+use Rattle.circuits.proofs.Working.{stems_length}
 
 pub some_same : {X : Type 0} (x y : X) → Some x ≡ Some y → x ≡ y
 some_same x y e = cc
@@ -173,7 +174,7 @@ pin_count_more gs k g h is = rw (take_more gs k g h, ← is) (pin_count_push (ta
 pub pin_count_le : (gs : List Gate) → pin_count gs ≤ 4 * length gs
 unfolding pin_count
 pin_count_le [] = omega arith
-pin_count_le (g ∷ gs) = omega (arith, pins_few g, pin_count_le gs)
+pin_count_le (g ∷ gs) = omega (arith, few g.pins, pin_count_le gs)
 
 -- whether a gate has a pin at a position
 pub pin_at_test : (gs : List Gate) (k i : ℕ) (g : Gate) → k < length gs → g ≡ get_or gs k g → is_some (pin_at gs k i) ≡ ltb i (length (pins_of g))

@@ -1,6 +1,6 @@
 -- Working out a circuit gate by gate, with nothing put into it.
-use Rattle.std.proofs.Common.{◌≡◌, ℕ, zero, suc, ◌+◌, ◌-◌, ◌<◌, ◌≤◌, Bool, true, ltb, List, [], ◌∷◌, ◌++◌, map, length, get_or, take, drop, set, sym, refl, ap, ◌∙◌, add-one, arith}
-use Rattle.std.proofs.lemmas.List.{take_more_set, drop_more, drop_all, length-set, length-drop, length-take-le, length_push, append_assoc, append-nil}
+use Rattle.std.proofs.Common.{◌≡◌, ℕ, zero, suc, ◌+◌, ◌-◌, ◌<◌, ◌≤◌, Bool, true, ltb, List, [], ◌∷◌, ◌++◌, map, length, get_or, drop, sym, refl, ap, ◌∙◌, add-one, arith}
+use Rattle.std.proofs.lemmas.List.{drop_more, drop_all, length-drop, length_push, append_assoc, append-nil}
 use Rattle.std.proofs.lemmas.Bool.{and_parts, ltb-true}
 use Rattle.circuits.specs.declared.gate.Gate.{Gate}
 use Rattle.circuits.specs.declared.gate.Output.{Output}
@@ -10,15 +10,6 @@ use Rattle.circuits.specs.Kinds.{fits, gate_bit}
 use Rattle.circuits.specs.Circuits.{Net, pins_of, Put, nothing, gate_stem, bit, through, received, input_stems, worked_out, stems_with, carried}
 use Rattle.circuits.specs.Legality.{pins_read, gate_legal, gates_legal, outputs_legal}
 use Rattle.circuits.specs.Lines.{stem_count}
-use Rattle.circuits.specs.Pins.{unused}
-use Rattle.circuits.proofs.Fronts.{front_parts, front_length}
-
--- a gate has at most four pins
-pub pins_few : (g : Gate) → length (pins_of g) ≤ 4
-pins_few g =
-    let f = front_parts unused 4 g.pins.table g.pins.len g.pins.good in
-    let e = front_length unused 4 g.pins.table g.pins.len f in
-    omega arith
 
 -- what each pin gets
 pub received_each : (g i : ℕ) (stems : List Bool) (ps : List Pin) → received nothing g i stems ps ≡ map (λ (p : Pin). through p stems) ps
@@ -43,87 +34,71 @@ gate_at s (g ∷ gs) (suc k) d h l =
     let e : s + suc k ≡ suc s + k = omega arith in
     rw e (gate_at (suc s) gs k d (and_parts (gate_legal s g) (gates_legal (suc s) gs) h).1 (omega arith))
 
--- the same of the stems that stand in the table
-pub gate_after :
-    (n : ℕ) (c : Net) (bits : List Bool) (k m : ℕ) (g : Gate) → gates_legal (length c.inputs) c.gates ≡ true → k < length c.gates → m < 76 → g ≡ get_or c.gates k g →
-    n ≡ length c.inputs → m ≡ n + k → length bits ≡ 76 → gate_legal (length (take m bits)) g ≡ true
-gate_after n c bits k m g legal h few is count at long =
-    let e : length (take m bits) ≡ length c.inputs + k = length-take-le m bits (omega arith) ∙ omega arith in
-    rw (e, is) (gate_at (length c.inputs) c.gates k g legal h)
-
 -- an element of a list, since there is one
-element : {X : Type 0} (xs : List X) (i : ℕ) → i < length xs → X
+pub element : {X : Type 0} (xs : List X) (i : ℕ) → i < length xs → X
 element [] i h = let z : ⊥ = omega arith in absurd z
 element (x ∷ xs) i h = x
 
--- The first i inputs are worked out into the table.
-pub record InputsDone (names : List Name) (a : ℕ) (bits : List Bool) (i : ℕ) : Type 0 where
-  pub long : length bits ≡ 76
-  pub done : take i bits ++ input_stems nothing i (drop i names) a ≡ input_stems nothing 0 names a
+-- All inputs but the last k are worked out.
+pub record InputsDone (names : List Name) (a : ℕ) (bits : List Bool) (k : ℕ) : Type 0 where
+  pub count : length bits + k ≡ length names
+  pub done : bits ++ input_stems nothing (length bits) (drop (length bits) names) a ≡ input_stems nothing 0 names a
 
 pub inputs_more :
-    (names : List Name) (a : ℕ) (bits : List Bool) (i n : ℕ) → n ≡ length names → i < n → i < 76 → InputsDone names a bits i →
-    InputsDone names a (set bits i (bit a (n - 1 - i))) (i + 1)
+    (names : List Name) (a : ℕ) (bits more : List Bool) (k : ℕ) → 0 < k → more ≡ bits ++ bit a (k - 1) ∷ [] → InputsDone names a bits k → InputsDone names a more (k - 1)
 unfolding input_stems
-inputs_more names a bits i m is h few p =
-    let v = bit a (m - 1 - i) in
-    let l : i < length names = omega arith in
-    let t = take_more_set bits i v (omega (arith, p.long)) in
-    let n : length (drop (i + 1) names) ≡ m - 1 - i = length-drop (i + 1) names ∙ omega arith in
+inputs_more names a bits more k some added p =
+    let v = bit a (k - 1) in
+    let i = length bits in
+    let l : i < length names = omega (arith, p.count) in
+    let n : length (drop (i + 1) names) ≡ k - 1 = length-drop (i + 1) names ∙ omega (arith, p.count) in
     let s : input_stems nothing i (drop i names) a ≡ v ∷ input_stems nothing (i + 1) (drop (i + 1) names) a =
-    ap (λ xs. input_stems nothing i xs a) (drop_more names i (element names i l) l) ∙ (ap (λ k. bit a k ∷ input_stems nothing (suc i) (drop (i + 1) names) a) n ∙ ap (λ k. v ∷ input_stems nothing k (drop (i + 1) names) a) (sym (add-one i)))
+    ap (λ xs. input_stems nothing i xs a) (drop_more names i (element names i l) l) ∙ (ap (λ j. bit a j ∷ input_stems nothing (suc i) (drop (i + 1) names) a) n ∙ ap (λ j. v ∷ input_stems nothing j (drop (i + 1) names) a) (sym (add-one i)))
     in
+    let e : length more ≡ i + 1 = ap length added ∙ length_push bits v in
     record {
-      long = length-set bits i v ∙ p.long;
-      done = ap (λ xs. xs ++ input_stems nothing (i + 1) (drop (i + 1) names) a) t ∙ (append_assoc (take i bits) (v ∷ []) (input_stems nothing (i + 1) (drop (i + 1) names) a) ∙ (ap (λ xs. take i bits ++ xs) (sym s) ∙ p.done));
+      count = omega (arith, p.count);
+      done = rw (e, added) (append_assoc bits (v ∷ []) _ ∙ (ap (λ xs. bits ++ xs) (sym s) ∙ p.done));
     }
 
-pub inputs_all : (names : List Name) (a : ℕ) (bits : List Bool) (i : ℕ) → i ≡ length names → InputsDone names a bits i → take (length names) bits ≡ input_stems nothing 0 names a
-unfolding input_stems
-inputs_all names a bits i e p =
-    ap (λ n. take n bits) (sym e) ∙ (sym (append-nil (take i bits)) ∙ (ap (λ xs. take i bits ++ input_stems nothing i xs a) (sym (drop_all i names (omega arith))) ∙ p.done))
+-- The first k gates are worked out.
+pub record GatesDone (c : Net) (a : ℕ) (bits : List Bool) (k : ℕ) : Type 0 where
+  pub count : length bits ≡ length c.inputs + k
+  pub done : worked_out nothing k bits (drop k c.gates) ≡ carried c a
 
--- The first k gates are worked out into the table, after n inputs.
-pub record GatesDone (n : ℕ) (c : Net) (a : ℕ) (bits : List Bool) (k : ℕ) : Type 0 where
-  pub count : n ≡ length c.inputs
-  pub long : length bits ≡ 76
-  pub done : worked_out nothing k (take (n + k) bits) (drop k c.gates) ≡ carried c a
+pub gates_none : (c : Net) (a : ℕ) (bits : List Bool) (k : ℕ) → k ≡ 0 → InputsDone c.inputs a bits k → GatesDone c a bits 0
+unfolding stems_with input_stems
+gates_none c a bits k e p =
+    let all : bits ≡ input_stems nothing 0 c.inputs a =
+    sym (append-nil bits) ∙ (ap (λ xs. bits ++ input_stems nothing (length bits) xs a) (sym (drop_all (length bits) c.inputs (omega (arith, p.count)))) ∙ p.done)
+    in
+    record { count = omega (arith, p.count); done = ap (λ xs. worked_out nothing 0 xs c.gates) all }
 
-pub gates_none : (n : ℕ) (c : Net) (a : ℕ) (bits : List Bool) (i : ℕ) → n ≡ length c.inputs → i ≡ n → InputsDone c.inputs a bits i → GatesDone n c a bits 0
-unfolding stems_with
-gates_none n c a bits i is e p =
-    let z : n + 0 ≡ length c.inputs = omega arith in
-    record {
-      count = is;
-      long = p.long;
-      done = ap (λ n. worked_out nothing 0 (take n bits) c.gates) z ∙ ap (λ xs. worked_out nothing 0 xs c.gates) (inputs_all c.inputs a bits i (e ∙ is) p);
-    }
+-- the next gate is legal after the stems before it
+pub gate_next :
+    (c : Net) (a : ℕ) (bits : List Bool) (k : ℕ) (g : Gate) → gates_legal (length c.inputs) c.gates ≡ true → k < length c.gates → g ≡ get_or c.gates k g →
+    GatesDone c a bits k → gate_legal (length bits) g ≡ true
+gate_next c a bits k g legal h is p = rw (p.count, is) (gate_at (length c.inputs) c.gates k g legal h)
 
 pub gates_more :
-    (n : ℕ) (c : Net) (a : ℕ) (bits : List Bool) (k m : ℕ) (g : Gate) (b : Bool) → k < length c.gates → m < 76 → g ≡ get_or c.gates k g → GatesDone n c a bits k →
-    m ≡ n + k → b ≡ gate_bit g.kind (received nothing k 0 (take m bits) (pins_of g)) → GatesDone n c a (set bits (n + k) b) (k + 1)
+    (c : Net) (a : ℕ) (bits more : List Bool) (k : ℕ) (g : Gate) (b : Bool) → k < length c.gates → g ≡ get_or c.gates k g → b ≡ gate_bit g.kind (received nothing k 0 bits (pins_of g)) →
+    more ≡ bits ++ b ∷ [] → GatesDone c a bits k → GatesDone c a more (k + 1)
 unfolding worked_out
-gates_more n c a bits k m g b h few is p at e' =
-    let e : b ≡ gate_bit g.kind (received nothing k 0 (take (n + k) bits) (pins_of g)) = e' ∙ ap (λ x. gate_bit g.kind (received nothing k 0 (take x bits) (pins_of g))) at in
-    let t = take_more_set bits (n + k) b (omega (arith, p.long, at)) in
-    let q : n + (k + 1) ≡ n + k + 1 = omega arith in
+gates_more c a bits more k g b h is e added p =
     let d : drop k c.gates ≡ g ∷ drop (k + 1) c.gates = drop_more c.gates k g h ∙ ap (λ x. x ∷ drop (k + 1) c.gates) (sym is) in
+    let l : length more ≡ length bits + 1 = ap length added ∙ length_push bits b in
     record {
-      count = p.count;
-      long = length-set bits (n + k) b ∙ p.long;
+      count = omega (arith, p.count);
       done =
-          ap (λ m. worked_out nothing (k + 1) (take m (set bits (n + k) b)) (drop (k + 1) c.gates)) q
-          ∙ (ap (λ xs. worked_out nothing (k + 1) xs (drop (k + 1) c.gates)) t
-          ∙ (ap (λ m. worked_out nothing m (take (n + k) bits ++ b ∷ []) (drop (k + 1) c.gates)) (add-one k)
-          ∙ (ap (λ x. worked_out nothing (suc k) (take (n + k) bits ++ x ∷ []) (drop (k + 1) c.gates)) e
-          ∙ (ap (λ gs. worked_out nothing k (take (n + k) bits) gs) (sym d) ∙ p.done))));
+          ap (λ xs. worked_out nothing (k + 1) xs (drop (k + 1) c.gates)) added
+          ∙ (ap (λ m. worked_out nothing m (bits ++ b ∷ []) (drop (k + 1) c.gates)) (add-one k)
+          ∙ (ap (λ x. worked_out nothing (suc k) (bits ++ x ∷ []) (drop (k + 1) c.gates)) e
+          ∙ (ap (λ gs. worked_out nothing k bits gs) (sym d) ∙ p.done)));
     }
 
-pub gates_all : (n : ℕ) (c : Net) (a : ℕ) (bits : List Bool) (k : ℕ) → k ≡ length c.gates → GatesDone n c a bits k → take (stem_count c) bits ≡ carried c a
+pub gates_all : (c : Net) (a : ℕ) (bits : List Bool) (k : ℕ) → length c.gates ≤ k → GatesDone c a bits k → bits ≡ carried c a
 unfolding worked_out
-gates_all n c a bits k e p =
-    let s : stem_count c ≡ n + k = omega (arith, p.count) in
-    ap (λ m. take m bits) s ∙ (ap (λ gs. worked_out nothing k (take (n + k) bits) gs) (sym (drop_all k c.gates (omega arith))) ∙ p.done)
+gates_all c a bits k e p = ap (λ gs. worked_out nothing k bits gs) (sym (drop_all k c.gates e)) ∙ p.done
 
 -- an output reads a stem
 pub output_reads : (s : ℕ) (xs : List Output) (k : ℕ) (x : Output) → outputs_legal s xs ≡ true → k < length xs → x ≡ get_or xs k x → x.pin.stem < s

@@ -1,14 +1,16 @@
 -- Circuits, and the bits that their stems have at an assignment, with and without a bit put at a line.
-use Rattle.std.specs.Prelude.{ℕ, suc, ◌/◌, ◌%◌, ◌^◌, Bool, false, cond, ◌&&◌, List, [], ◌∷◌, ◌++◌, length, take, vec_items, ◌==◌, slice_index_or}
+use Rattle.std.specs.Prelude.{ℕ, suc, ◌/◌, ◌%◌, ◌^◌, Bool, false, cond, ◌&&◌, List, [], ◌∷◌, ◌++◌, length, vec_items, ◌==◌, slice_index_or}
 use Rattle.circuits.specs.declared.circuit.Circuit.{Circuit}
 use Rattle.circuits.specs.declared.gate.Gate.{Gate}
 use Rattle.circuits.specs.declared.gate.Output.{Output}
-use Rattle.circuits.specs.declared.gate.Pins.{Pins}
 use Rattle.circuits.specs.declared.name.Name.{Name}
 use Rattle.circuits.specs.declared.pin.Pin.{Pin}
 use Rattle.circuits.specs.declared.place.Place.{Place}
 use Rattle.circuits.specs.declared.place.Place.TheVariants.{Stem, Pin as GatePin}
+use Rattle.circuits.specs.declared.short.Short.{Short}
+use Rattle.circuits.specs.contracts.pin.PinBlank.TheImpl.{ghosts}
 use Rattle.circuits.specs.Kinds.{differ, gate_bit}
+use Rattle.circuits.specs.Shorts.{entries}
 
 -- a circuit by its three lists
 pub record Net : Type 0 where
@@ -24,10 +26,14 @@ abbrev pub assignments : Net → ℕ
 assignments c = 2 ^ length c.inputs
 
 abbrev pub name_bytes : Name → List ℕ
-name_bytes x = take x.len x.bytes
+name_bytes x = entries x.bytes
+
+-- the pins of a gate, at most four
+abbrev pub Pins : Type 0
+Pins = Short Pin 4 ghosts
 
 abbrev pub pin_list : Pins → List Pin
-pin_list p = take p.len p.table
+pin_list p = entries p
 
 abbrev pub pins_of : Gate → List Pin
 pins_of g = pin_list g.pins

@@ -3,6 +3,7 @@ pub mod Kinds
 pub mod Names
 pub mod Pins
 pub mod Patterns
+pub mod Shorts
 pub mod Circuits
 pub mod Lines
 pub mod Specification

@@ -1,20 +1,25 @@
 -- What the outputs of a circuit have to be.
-use Rattle.std.specs.Prelude.{◌≡◌, ℕ, zero, suc, ◌+◌, ◌<◌, Bool, true, false, cond, not, ◌&&◌, List, [], ◌∷◌, length, take, Some, None, Option, ◌==◌, nat_lt}
+use Rattle.std.specs.Prelude.{◌≡◌, ℕ, zero, suc, ◌+◌, ◌<◌, Bool, true, false, cond, not, ◌&&◌, List, [], ◌∷◌, length, Some, None, Option, ◌==◌, nat_lt}
 use Rattle.std.specs.Option.{option_map, unwrap_or}
 use Rattle.std.specs.List.{slice_get}
 use Rattle.circuits.specs.declared.gate.Output.{Output}
 use Rattle.circuits.specs.declared.literal.Literal.{Literal}
 use Rattle.circuits.specs.declared.literal.Literal.TheVariants.{Zero, One, Dash}
 use Rattle.circuits.specs.declared.place.Place.{Place}
-use Rattle.circuits.specs.declared.row.Pattern.{Pattern}
 use Rattle.circuits.specs.declared.row.SpecRow.{SpecRow}
+use Rattle.circuits.specs.declared.short.Short.{Short}
+use Rattle.circuits.specs.contracts.literal.LiteralBlank.TheImpl.{ghosts}
 use Rattle.circuits.specs.Kinds.{differ}
 use Rattle.circuits.specs.Lines.{place_of, place_bit}
+use Rattle.circuits.specs.Shorts.{entries}
 use Rattle.circuits.specs.Circuits.{Net, bit, assignments, carried, through, with_bit}
 
--- the literals of a pattern, one for each input
+-- a literal for each input, at most twelve
+abbrev pub Pattern : Type 0
+Pattern = Short Literal 12 ghosts
+
 abbrev pub literal_list : Pattern → List Literal
-literal_list p = take p.len p.literals
+literal_list p = entries p
 
 abbrev pub literals_of : SpecRow → List Literal
 literals_of r = literal_list r.pattern

@@ -1,22 +1,13 @@
 //! Gates with their pins, and outputs.
-ghost use Rattle.std.specs.Prelude.{◌≡◌, true};
-ghost use Rattle.circuits.specs.Pins.{unused};
-ghost use Rattle.circuits.specs.Tables.{holds_front};
-
 mod reads;
-mod table;
 
 use crate::kind::Kind;
 use crate::name::Name;
 use crate::pin::Pin;
+use crate::short::Short;
 
 /// The pins of a gate, in their order: at most four.
-#[derive(Clone, Copy)]
-pub struct Pins {
-    pub(crate) table: [Pin; 4],
-    pub(crate) len: usize,
-    ghost good: { holds_front unused 4 table len ≡ true },
-}
+pub type Pins = Short<Pin, 4>;
 
 /// A gate of a circuit.
 #[derive(Clone, Copy)]

@@ -13,6 +13,7 @@ mod name;
 mod pin;
 mod place;
 mod row;
+mod short;
 
 pub use circuit::Circuit;
 pub use counts::Counts;
@@ -26,3 +27,4 @@ pub use name::Name;
 pub use pin::Pin;
 pub use place::Place;
 pub use row::{Pattern, SpecRow};
+pub use short::{Blank, Full, Short};

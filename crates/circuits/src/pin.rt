@@ -1,4 +1,7 @@
 //! What reads a stem.
+ghost use Rattle.circuits.specs.Pins.{unused};
+
+use crate::short::Blank;
 
 /// A reader of one stem, through an inversion where it is marked.
 #[derive(Clone, Copy)]
@@ -6,4 +9,15 @@ pub struct Pin {
     /// The number of the stem: inputs first, then gates.
     pub stem: usize,
     pub mark: bool,
+}
+
+impl Blank for Pin {
+    ghost is_blank = { unused };
+
+    fn blank() -> Pin {
+        Pin {
+            stem: 0,
+            mark: false,
+        }
+    }
 }

@@ -1,22 +1,13 @@
 //! The rows of a specification.
-ghost use Rattle.std.specs.Prelude.{◌≡◌, true};
-ghost use Rattle.circuits.specs.Patterns.{is_dash};
-ghost use Rattle.circuits.specs.Tables.{holds_front};
-
 mod clash;
 mod covers;
-mod table;
 
 use crate::literal::Literal;
+use crate::short::Short;
 pub(crate) use covers::bound_value;
 
 /// One literal for each input, in their order: at most twelve.
-#[derive(Clone, Copy)]
-pub struct Pattern {
-    pub(crate) literals: [Literal; 12],
-    pub(crate) len: usize,
-    ghost good: { holds_front is_dash 12 literals len ≡ true },
-}
+pub type Pattern = Short<Literal, 12>;
 
 /// A row: the output has the value wherever the pattern matches.
 #[derive(Clone, Copy)]

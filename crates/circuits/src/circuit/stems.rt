@@ -1,13 +1,14 @@
 //! The bits of the stems of a circuit at an assignment.
-ghost use Rattle.std.specs.Prelude.{◌≡◌, ℕ, ◌<◌, ◌≤◌, true, length, take};
+ghost use Rattle.std.specs.Prelude.{◌≡◌, ℕ, ◌<◌, ◌≤◌, true, length};
 ghost use Rattle.circuits.specs.Circuits.{net, nothing, pins_of, received, through, carried};
 ghost use Rattle.circuits.specs.Kinds.{gate_bit, ones};
 ghost use Rattle.circuits.specs.Legality.{pins_read, gate_legal, gates_legal};
-ghost use Rattle.circuits.specs.Lines.{stem_count};
+ghost use Rattle.circuits.specs.Shorts.{entries};
 
 use crate::circuit::Circuit;
 use crate::gate::Gate;
 use crate::pin::Pin;
+use crate::short::Short;
 
 impl Pin {
     // What the pin gets of the stems, through its mark.
@@ -39,21 +40,20 @@ impl Gate {
 }
 
 impl Circuit {
-    // The bits of the stems at an assignment, at the front of the table.
-    pub(crate) fn stem_bits(&self, assignment: usize) -> [bool; 76]
+    // The bits of the stems at an assignment, whose highest bit is the first input.
+    pub(crate) fn stem_bits(&self, assignment: usize) -> Short<bool, 76>
         requires inputs { length (net self.now).inputs ≤ 12 }
         requires gates { length (net self.now).gates ≤ 64 }
         requires legal { gates_legal (length (net self.now).inputs) (net self.now).gates ≡ true }
-        ensures { take (stem_count (net self.now)) result ≡ carried (net self.now) assignment }
+        ensures { entries result ≡ carried (net self.now) assignment }
     {
-        let mut bits = [false; 76];
-        let inputs = self.inputs.len();
-        for i in 0..inputs {
-            bits[i] = (assignment >> (inputs - 1 - i)) % 2 == 1;
+        let mut bits = Short::none();
+        for k in (0..self.inputs.len()).rev() {
+            bits.push((assignment >> k) % 2 == 1).unwrap();
         }
-        for k in 0..self.gates.len() {
-            let bit = self.gates[k].work_out(&bits[0..inputs + k]);
-            bits[inputs + k] = bit;
+        for gate in &self.gates {
+            let bit = gate.work_out(bits.as_slice());
+            bits.push(bit).unwrap();
         }
         bits
     }

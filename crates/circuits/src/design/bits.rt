@@ -1,16 +1,18 @@
 //! What the lines and the outputs of a design carry at an assignment.
-ghost use Rattle.std.specs.Prelude.{◌≡◌, ◌<◌, length, take, IfSome};
+ghost use Rattle.std.specs.Prelude.{◌≡◌, ◌<◌, length, IfSome};
 ghost use Rattle.std.specs.Option.{option_map};
 ghost use Rattle.std.specs.List.{slice_get};
 ghost use Rattle.circuits.specs.declared.gate.Output.{Output};
 ghost use Rattle.circuits.specs.Circuits.{assignments, carried};
 ghost use Rattle.circuits.specs.Drafts.{design_parts};
 ghost use Rattle.circuits.specs.Lines.{stem_count, pin_at, line_bit};
+ghost use Rattle.circuits.specs.Shorts.{entries};
 ghost use Rattle.circuits.specs.Specification.{output_at};
 
 use crate::design::Design;
 use crate::pin::Pin;
 use crate::place::Place;
+use crate::short::Short;
 
 impl Design {
     // How many assignments there are: 2 to the number of inputs.
@@ -20,10 +22,10 @@ impl Design {
         1 << self.draft.circuit.inputs.len()
     }
 
-    // The bits of the stems at an assignment, at the front of the table.
-    pub(super) fn stem_bits(&self, assignment: usize) -> [bool; 76]
-        ensures bits { take (stem_count (design_parts self.now).circuit) result ≡ carried (design_parts self.now).circuit assignment }
-        ensures room { stem_count (design_parts self.now).circuit < 77 }
+    // The bits of the stems at an assignment.
+    pub(super) fn stem_bits(&self, assignment: usize) -> Short<bool, 76>
+        ensures bits { entries result ≡ carried (design_parts self.now).circuit assignment }
+        ensures one_each { length (entries result) ≡ stem_count (design_parts self.now).circuit }
     {
         self.draft.circuit.stem_bits(assignment)
     }
@@ -62,8 +64,8 @@ impl Design {
         if assignment >= self.assignments() {
             return None;
         }
-        let table = self.stem_bits(assignment);
-        let stems = &table[0..self.stems()];
+        let bits = self.stem_bits(assignment);
+        let stems = bits.as_slice();
         match self.place(line)? {
             Place::Stem(stem) => Some(stems[stem]),
             Place::Pin { gate, position } => Some(self.pin(gate, position)?.get(stems)),
@@ -77,8 +79,8 @@ impl Design {
         if assignment >= self.assignments() {
             return None;
         }
-        let table = self.stem_bits(assignment);
-        let stems = &table[0..self.stems()];
+        let bits = self.stem_bits(assignment);
+        let stems = bits.as_slice();
         Some(self.output_pin(output)?.get(stems))
     }
 }

@@ -21,8 +21,8 @@ impl Design {
         match bound_value(self.draft.rows.as_slice(), output, assignment) {
             None => true,
             Some(value) => {
-                let table = self.stem_bits(assignment);
-                value == pin.get(&table[0..self.stems()])
+                let bits = self.stem_bits(assignment);
+                value == pin.get(bits.as_slice())
             }
         }
     }

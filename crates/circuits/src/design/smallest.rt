@@ -15,10 +15,7 @@ impl Design {
         ensures { IfOk result (λ d. Smallest (design_parts d)) }
     {
         let mut draft = Draft::new(heap)?;
-        let name = Name {
-            bytes: [b'a', 0, 0, 0, 0, 0, 0, 0],
-            len: 1,
-        };
+        let name = Name::new(b"a").unwrap();
         draft.circuit.inputs.push_reserved(name);
         draft.circuit.outputs.push_reserved(Output {
             name,

@@ -7,6 +7,7 @@ ghost use Rattle.std.specs.Cmp.Rules.{comparing};
 ghost use Rattle.std.proofs.Common.{rules, arith};
 
 use crate::name::Name;
+use crate::short::Short;
 
 // a to z, or 0 to 9
 fn is_letter(byte: u8) -> bool
@@ -15,33 +16,33 @@ fn is_letter(byte: u8) -> bool
     (b'a' <= byte && byte <= b'z') || (b'0' <= byte && byte <= b'9')
 }
 
+// Whether these bytes are a name.
+fn is_name(bytes: &[u8]) -> bool
+    ensures { result ≡ is_name bytes.now }
+{
+    !bytes.is_empty() && bytes.len() <= 8 && bytes.iter().all(|byte| is_letter(*byte))
+}
+
 impl Name {
     /// The name of these bytes, or none where they are no name.
     pub fn new(bytes: &[u8]) -> Option<Name>
         ensures { MatchOption result (is_name bytes.now ≡ false) (λ x. (is_name bytes.now ≡ true) × (name_bytes x ≡ bytes.now)) }
     {
-        if bytes.is_empty() || bytes.len() > 8 {
+        if !is_name(bytes) {
             return None;
         }
-        let mut table = [0u8; 8];
-        for i in 0..bytes.len() {
-            let byte = bytes[i];
-            if !is_letter(byte) {
-                return None;
-            }
-            table[i] = byte;
+        let mut name = Short::none();
+        for byte in bytes {
+            name.push(*byte).unwrap();
         }
-        Some(Name {
-            bytes: table,
-            len: bytes.len(),
-        })
+        Some(Name { bytes: name })
     }
 
     // The bytes of the name.
     pub(crate) fn as_bytes(&self) -> &[u8]
         ensures { result.now ≡ name_bytes self.now }
     {
-        &self.bytes[0..self.len]
+        self.bytes.as_slice()
     }
 }
 

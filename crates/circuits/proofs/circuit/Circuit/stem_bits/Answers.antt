@@ -1,33 +1,29 @@
-use Rattle.std.proofs.Common.{◌∙◌, arith}
+use Rattle.std.proofs.Common.{arith}
 use Rattle.circuits.specs.Circuits.{net}
-use Rattle.circuits.proofs.Working.{inputs_more, gates_none, gates_more, gates_all, gate_after}
+use Rattle.circuits.proofs.Fronts.{taken}
+use Rattle.circuits.proofs.Working.{inputs_more, gates_none, gates_more, gates_all, gate_next}
 use Rattle.circuits.proofs.circuit.Circuit.stem_bits.Goals as goal
 
-pub loop-i-preserved : goal.loop-i-preserved
-loop-i-preserved c =
-    let e = c.args.self.now.inputs.ok.0 in
-    inputs_more (net c.args.self.now).inputs c.args.assignment c.loop-i.bits c.loop-i.i c.len-inputs.result (c.len-inputs.ensures ∙ e) (omega arith) (omega (arith, c.len-inputs.ensures, e)) c.loop-i.invariant
+pub unwrap-requires : goal.unwrap-requires
+unwrap-requires c = taken _ _ c.push.result c.push.ensures (λ full. let n = full.0 in omega (arith, c.loop-k.invariant.count))
 
-pub loop-k-init : goal.loop-k-init
-loop-k-init c =
-    let e = c.args.self.now.inputs.ok.0 in
-    gates_none c.len-inputs.result (net c.args.self.now) c.args.assignment c.loop-i.bits c.loop-i.i (c.len-inputs.ensures ∙ e) (omega arith) c.loop-i.invariant
+pub loop-k-preserved : goal.loop-k-preserved
+loop-k-preserved c = inputs_more _ _ _ _ _ (omega arith) (rw c.unwrap.ensures at c.push.ensures).1 c.loop-k.invariant
 
-pub returns : goal.returns
-returns c =
-    let e = c.args.self.now.gates.ok.0 in
-    gates_all c.len-inputs.result (net c.args.self.now) c.args.assignment c.loop-k.bits c.loop-k.k (omega (arith, c.len-k-end.ensures, e)) c.loop-k.invariant
+pub loop-gate-init : goal.loop-gate-init
+loop-gate-init c = gates_none (net c.args.self.now) _ _ c.loop-k.k (omega arith) c.loop-k.invariant
 
 pub work_out-bit-requires : goal.work_out-bit-requires
 work_out-bit-requires c =
-    let e = c.args.self.now.gates.ok.0 in
-    let f = c.args.self.now.inputs.ok.0 in
-    gate_after c.len-inputs.result (net c.args.self.now) c.loop-k.bits c.loop-k.k _ c.index.result.now c.requires.legal (omega (arith, c.len-k-end.ensures, e))
-    (omega (arith, c.len-k-end.ensures, e, c.len-inputs.ensures, f)) c.index.ensures c.loop-k.invariant.count (omega arith) c.loop-k.invariant.long
+    rw c.as_slice.ensures (gate_next (net c.args.self.now) c.args.assignment _ c.loop-gate.gate-index c.gate-item.result c.requires.legal (rw (← c.deref-gate-items.ensures.value) c.loop-gate-test.true) (rw (← c.deref-gate-items.ensures.value) c.gate-item.is) c.loop-gate.invariant)
 
-pub loop-k-preserved : goal.loop-k-preserved
-loop-k-preserved c =
-    let e = c.args.self.now.gates.ok.0 in
-    let f = c.args.self.now.inputs.ok.0 in
-    gates_more c.len-inputs.result (net c.args.self.now) c.args.assignment c.loop-k.bits c.loop-k.k _ c.index.result.now c.work_out-bit.result
-    (omega (arith, c.len-k-end.ensures, e)) (omega (arith, c.len-k-end.ensures, e, c.len-inputs.ensures, f)) c.index.ensures c.loop-k.invariant (omega arith) (c.work_out-bit.ensures c.loop-k.k)
+pub unwrap-requires-in-loop-gate : goal.unwrap-requires-in-loop-gate
+unwrap-requires-in-loop-gate c = taken _ _ c.push-in-loop-gate.result c.push-in-loop-gate.ensures (λ full. let n = full.0 in omega (arith, c.loop-gate.invariant.count))
+
+pub loop-gate-preserved : goal.loop-gate-preserved
+loop-gate-preserved c =
+    gates_more (net c.args.self.now) c.args.assignment _ _ c.loop-gate.gate-index c.gate-item.result c.work_out-bit.result (rw (← c.deref-gate-items.ensures.value) c.loop-gate-test.true) (rw (← c.deref-gate-items.ensures.value) c.gate-item.is)
+    (rw (← c.as_slice.ensures) (c.work_out-bit.ensures c.loop-gate.gate-index)) (rw c.unwrap-in-loop-gate.ensures at c.push-in-loop-gate.ensures).1 c.loop-gate.invariant
+
+pub returns : goal.returns
+returns c = gates_all (net c.args.self.now) c.args.assignment _ c.loop-gate.gate-index (rw (← c.deref-gate-items.ensures.value) c.loop-gate-test.false) c.loop-gate.invariant

@@ -1,14 +1,14 @@
-use Rattle.std.proofs.Common.{refl}
+use Rattle.std.proofs.Common.{[], ◌∷◌, refl}
 use Rattle.circuits.specs.Drafts.{draft_parts}
 use Rattle.circuits.specs.Names.{letters, is_name}
-use Rattle.circuits.specs.Tables.{all_blank, holds_front}
+use Rattle.circuits.proofs.Naming.{named}
 use Rattle.circuits.proofs.Rules.{whole}
 use Rattle.circuits.proofs.Starts.{smallest_legal, smallest_parts}
 use Rattle.circuits.proofs.design.Design.new.Goals as goal
 
-pub invariant_of-name : goal.invariant_of-name
-unfolding holds_front all_blank is_name letters
-invariant_of-name c = record { table = refl; good = refl }
+pub unwrap-name-requires : goal.unwrap-name-requires
+unfolding is_name letters
+unwrap-name-requires c = named (97 ∷ []) c.new-2.result c.new-2.ensures refl
 
 pub invariant_of-draft : goal.invariant_of-draft
 invariant_of-draft c =
@@ -22,4 +22,5 @@ invariant_of-result c =
 
 pub returns : goal.returns
 returns c =
-    smallest_parts (draft_parts c.in_ok-draft.draft) _ _ _ c.in_ok-draft.ensures c.push_reserved.ensures.items c.push_reserved-2.ensures.items refl
+    smallest_parts (draft_parts c.in_ok-draft.draft) _ _ _ c.in_ok-draft.ensures c.push_reserved.ensures.items c.push_reserved-2.ensures.items
+    (rw c.unwrap-name.ensures at c.new-2.ensures).1

@@ -3,9 +3,9 @@ use Rattle.std.proofs.lemmas.List.{length-take-le}
 use Rattle.std.proofs.lemmas.Bool.{le-ltb, lt-ltb}
 use Rattle.circuits.specs.Circuits.{net, pins_of}
 use Rattle.circuits.specs.Lines.{stem_count, pin_count}
+use Rattle.circuits.proofs.Fronts.{few}
 use Rattle.circuits.proofs.Numbering.{no_pin_number, pin_at_past, pin_at_test, pin_number, pin_count_more, pin_count_le}
 use Rattle.circuits.proofs.Rules.{design_rules}
-use Rattle.circuits.proofs.Working.{pins_few}
 use Rattle.circuits.proofs.design.Design.pin_line.Goals as goal
 
 pub returns-then-gate-len : goal.returns-then-gate-len
@@ -23,7 +23,7 @@ returns-then-position-as_slice c =
 pub overflow_add-line : goal.overflow_add-line
 overflow_add-line c =
     let r = design_rules (net c.args.self.now.draft.circuit) _ c.args.self.now.lawful in
-    omega (arith, pins_few c.index.result.now, ap length c.as_slice.ensures, c.stems.ensures, r.few_inputs, r.few_gates)
+    omega (arith, few c.index.result.now.pins, ap length c.as_slice.ensures, c.stems.ensures, r.few_inputs, r.few_gates)
 
 pub loop-k-init : goal.loop-k-init
 unfolding pin_count
@@ -35,7 +35,7 @@ overflow_add-line-in-loop-k c =
     let e = c.args.self.now.draft.circuit.gates.ok.0 in
     let r = design_rules n _ c.args.self.now.lawful in
     let t : length (take c.loop-k.k n.gates) ≡ c.loop-k.k = length-take-le c.loop-k.k n.gates (omega (arith, e, c.len.ensures)) in
-    omega (arith, pins_few c.index-in-loop-k.result.now, ap length c.as_slice-in-loop-k.ensures, pins_few c.index.result.now, ap length c.as_slice.ensures, pin_count_le (take c.loop-k.k n.gates), r.few_inputs, r.few_gates, e, c.len.ensures)
+    omega (arith, few c.index-in-loop-k.result.now.pins, ap length c.as_slice-in-loop-k.ensures, few c.index.result.now.pins, ap length c.as_slice.ensures, pin_count_le (take c.loop-k.k n.gates), r.few_inputs, r.few_gates, e, c.len.ensures)
 
 pub loop-k-preserved : goal.loop-k-preserved
 loop-k-preserved c =

@@ -1,6 +1,7 @@
-use Rattle.std.proofs.Common.{arith}
-use Rattle.circuits.specs.Circuits.{net}
+use Rattle.std.proofs.Common.{length, ap, ◌∙◌}
+use Rattle.circuits.specs.Circuits.{net, nothing}
 use Rattle.circuits.proofs.Rules.{design_rules}
+use Rattle.circuits.proofs.Working.{stems_length}
 use Rattle.circuits.proofs.design.Design.stem_bits.Goals as goal
 
 pub stem_bits-requires : goal.stem_bits-requires
@@ -10,5 +11,4 @@ stem_bits-requires c =
 
 pub returns : goal.returns
 returns c =
-    let r = design_rules (net c.args.self.now.draft.circuit) _ c.args.self.now.lawful in
-    record { bits = c.stem_bits.ensures; room = omega (arith, r.few_inputs, r.few_gates) }
+    record { bits = c.stem_bits.ensures; one_each = ap length c.stem_bits.ensures ∙ stems_length nothing (net c.args.self.now.draft.circuit) c.args.assignment }

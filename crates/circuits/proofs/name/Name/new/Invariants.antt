@@ -1,5 +1,6 @@
-use Rattle.circuits.proofs.Naming.{Copied}
+use Rattle.std.proofs.Common.{◌≡◌, take}
+use Rattle.circuits.specs.Shorts.{entries}
 use Rattle.circuits.proofs.name.Name.new.Given as goal
 
-abbrev pub invariant-loop-i : goal.invariant-loop-i
-invariant-loop-i l = Copied l.bytes l.table l.i
+abbrev pub invariant-loop-byte : goal.invariant-loop-byte
+invariant-loop-byte l = entries l.name ≡ take l.byte-index l.bytes

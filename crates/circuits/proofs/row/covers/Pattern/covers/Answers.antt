@@ -5,21 +5,18 @@ use Rattle.std.proofs.lemmas.Iterator.Search.{all_from_yields_List}
 use Rattle.circuits.specs.Circuits.{bit}
 use Rattle.circuits.specs.declared.literal.Literal.{Literal}
 use Rattle.circuits.specs.Specification.{matches}
-use Rattle.circuits.specs.Patterns.{is_dash}
-use Rattle.circuits.proofs.Fronts.{front_parts, front_length}
+use Rattle.circuits.proofs.Fronts.{few}
 use Rattle.circuits.proofs.Recursions.{covers_all, place_below}
-use Rattle.circuits.proofs.row.Pattern.covers.Goals as goal
+use Rattle.circuits.proofs.row.covers.Pattern.covers.Goals as goal
 
 -- the literals from the last on, each with its number
 pub all-requires-clause-callable : goal.all-requires-clause-callable
 all-requires-clause-callable c =
-    let self = c.args.self.now in
-    let f = front_parts is_dash 12 self.literals self.len self.good in
     serves_from_places
     (YieldsList-from_enumerate (YieldsList-at c.enumerate.ensures.source (YieldsList-from_rev_slice c.as_slice.result.now cc)) (cc)) (λ x q k. search (rules, tests))
     (λ x k h e.
     let small : x.0 < 64 =
-    omega (arith, place_below c.as_slice.result.now k (x.0, x.1.now) h e, f.within, front_length is_dash 12 self.literals self.len f, ap length c.as_slice.ensures)
+    omega (arith, place_below c.as_slice.result.now k (x.0, x.1.now) h e, few c.args.self.now, ap length c.as_slice.ensures)
     in
     search rules)
 
