@@ -2,7 +2,7 @@ mod Adding
 mod Agreeing
 mod Binding
 mod Faults
-mod Fronts
+pub mod Fronts
 mod Naming
 mod Numbering
 mod Ones

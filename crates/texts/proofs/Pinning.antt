@@ -1,11 +1,10 @@
 -- Pins that are looked up one after the other.
-use Rattle.std.proofs.Common.{◌≡◌, ℕ, ◌<◌, Bool, true, false, ltb, List, [], ◌∷◌, ◌++◌, length, Some, None, Option, sym, refl, ap, ◌∙◌, ⊎_elim, append_assoc, append-nil, arith, Bor}
+use Rattle.std.proofs.Common.{◌≡◌, ℕ, ◌<◌, Bool, true, false, List, [], ◌∷◌, ◌++◌, length, Some, None, Option, sym, refl, ap, ◌∙◌, ⊎_elim, append_assoc, append-nil, arith, Bor}
 use Rattle.std.proofs.lemmas.List.{length_push}
-use Rattle.std.proofs.lemmas.Bool.{cases_Bool, ltb-false, true≢false}
+use Rattle.std.proofs.lemmas.Bool.{cases_Bool, true≢false}
 use Rattle.std.specs.Option.{option_map}
-use Rattle.circuits.specs.declared.gate.Pins.{Pins}
 use Rattle.circuits.specs.declared.pin.Pin.{Pin}
-use Rattle.circuits.specs.Circuits.{pin_list}
+use Rattle.circuits.specs.Circuits.{Pins, pin_list}
 use Rattle.circuits.specs.Drafts.{Parts}
 use Rattle.circuits.specs.Lines.{then}
 use Rattle.texts.specs.Adding.{pin_named, pins_named}
@@ -56,11 +55,10 @@ module _ (d : Parts) (fs : List (List ℕ)) (pins pins' : Pins) (room : Bool) (o
 
   -- or not
   pub read_over :
-      (p : Pin) → o ≡ Some bs → fields bs.now ≡ f ∷ left_of more → Some p ≡ pin_named d f → false ≡ ltb (length (pin_list pins)) 4 →
+      (p : Pin) → o ≡ Some bs → fields bs.now ≡ f ∷ left_of more → Some p ≡ pin_named d f → length (pin_list pins) ≡ 4 →
       Read d fs pins room o → Read d fs pins' false more
   read_over p is all found full h =
       let long = length_push h.seen p in
-      let four = ltb-false (length (pin_list pins)) 4 (sym full) in
       let kept : room ≡ true → 4 < length (h.seen ++ p ∷ []) = λ e. omega (arith, ap length (h.kept e)) in
       let over : room ≡ false → 4 < length (h.seen ++ p ∷ []) = λ e. omega (arith, h.over e) in
       record {

@@ -1,35 +1,25 @@
 -- Rows that a record writes.
-use Rattle.std.proofs.Common.{◌≡◌, ℕ, ◌<◌, ◌≤◌, Bool, true, false, not, ◌&&◌, eqb, leb, List, length, drop, Some, None, sym, refl, ap, ◌∙◌, subst, arith}
-use Rattle.std.proofs.lemmas.List.{length-take, length-map}
-use Rattle.std.proofs.lemmas.Bool.{and_parts, leb-true, lt-leb, eqb-true, eq-eqb, both_ways}
+use Rattle.std.proofs.Common.{◌≡◌, ℕ, ◌<◌, ◌≤◌, Bool, true, false, not, eqb, List, length, Some, None, sym, refl, ap, ◌∙◌, subst, arith}
+use Rattle.std.proofs.lemmas.List.{length-map}
+use Rattle.std.proofs.lemmas.Bool.{lt-leb, eqb-true, eq-eqb, both_ways}
 use Rattle.circuits.specs.declared.fault.PartFault.{PartFault}
 use Rattle.circuits.specs.declared.fault.PartFault.TheVariants as part
 use Rattle.circuits.specs.declared.gate.Output.{Output}
 use Rattle.circuits.specs.declared.literal.Literal.{Literal}
-use Rattle.circuits.specs.declared.row.Pattern.{Pattern}
 use Rattle.circuits.specs.declared.row.SpecRow.{SpecRow}
 use Rattle.circuits.specs.Circuits.{name_bytes}
 use Rattle.circuits.specs.Drafts.{Parts, check, row_fault, with_row}
 use Rattle.circuits.specs.Legality.{agrees, output_names}
-use Rattle.circuits.specs.Patterns.{is_dash}
-use Rattle.circuits.specs.Specification.{literal_list, literals_of}
-use Rattle.circuits.specs.Tables.{all_blank, holds_front}
+use Rattle.circuits.specs.Specification.{literals_of}
+use Rattle.circuits.proofs.Fronts.{few}
 use Rattle.texts.specs.Adding.{output_named, RowWritten, RowAdded, RowRefused, unwritten, contradiction}
 use Rattle.texts.specs.Faults.{cause_of}
 use Rattle.texts.specs.Fields.{literal_byte, pattern_word, value_word}
 use Rattle.texts.proofs.Additions.{position_within}
 
--- a pattern has at most twelve literals
-pub few_literals : (p : Pattern) → length (literal_list p) ≤ 12
-unfolding holds_front
-few_literals p =
-    let h = (and_parts (eqb (length p.literals) 12 && leb p.len 12) (all_blank is_dash (drop p.len p.literals)) p.good).0 in
-    let k = leb-true p.len 12 (and_parts (eqb (length p.literals) 12) (leb p.len 12) h).1 in
-    omega (arith, length-take p.len p.literals)
-
 -- Where the pattern or the value writes nothing, no row is written.
 pub no_pattern : (d : Parts) (x p v : List ℕ) → ((ls : List Literal) → length ls ≤ 12 → p ≡ pattern_word ls → ⊥) → (row : SpecRow) → RowWritten d x p v row → ⊥
-no_pattern d x p v none row w = none (literals_of row) (few_literals row.pattern) w.matches
+no_pattern d x p v none row w = none (literals_of row) (few row.pattern) w.matches
 
 pub no_value : (d : Parts) (x p v : List ℕ) → ((b : Bool) → v ≡ value_word b → ⊥) → (row : SpecRow) → RowWritten d x p v row → ⊥
 no_value d x p v none row w = none row.value w.holds

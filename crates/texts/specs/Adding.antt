@@ -3,12 +3,11 @@ use Rattle.std.specs.Prelude.{◌≡◌, ℕ, ◌<◌, ◌≤◌, Bool, true, fa
 use Rattle.std.specs.Option.{option_map}
 use Rattle.circuits.specs.declared.gate.Gate.{Gate}
 use Rattle.circuits.specs.declared.gate.Output.{Output}
-use Rattle.circuits.specs.declared.gate.Pins.{Pins}
 use Rattle.circuits.specs.declared.kind.Kind.{Kind}
 use Rattle.circuits.specs.declared.name.Name.{Name}
 use Rattle.circuits.specs.declared.pin.Pin.{Pin}
 use Rattle.circuits.specs.declared.row.SpecRow.{SpecRow}
-use Rattle.circuits.specs.Circuits.{pin_list, pins_of}
+use Rattle.circuits.specs.Circuits.{Pins, pin_list, pins_of}
 use Rattle.circuits.specs.Drafts.{Parts, with_gate, with_output, with_row}
 use Rattle.circuits.specs.Kinds.{fits}
 use Rattle.circuits.specs.Legality.{position, among, stem_names, output_names, agrees}

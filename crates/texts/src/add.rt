@@ -34,7 +34,7 @@ fn read_pins(draft: &Draft, fields: Option<&[u8]>) -> Result<Pins, Cause>
         let Some(pin) = read_pin(draft, field) else {
             return Err(Cause::Naming);
         };
-        if !pins.push(pin) {
+        if pins.push(pin).is_err() {
             room = false;
         }
         rest = more;

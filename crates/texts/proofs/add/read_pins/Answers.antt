@@ -1,5 +1,6 @@
-use Rattle.std.proofs.Common.{Some, refl, ap, ◌∙◌}
+use Rattle.std.proofs.Common.{Some, sym, refl, ap, ◌∙◌}
 use Rattle.circuits.specs.Drafts.{draft_parts}
+use Rattle.circuits.proofs.Fronts.{where_taken, where_refused}
 use Rattle.texts.specs.Records.{comma}
 use Rattle.texts.proofs.Forms.{left_of}
 use Rattle.texts.proofs.Pinning.{read_none, read_kept, read_over, read_unknown, read_end}
@@ -13,13 +14,13 @@ pub returns-in_default-read_pin : goal.returns-in_default-read_pin
 returns-in_default-read_pin c =
     rw (read_unknown (draft_parts c.args.draft.now) (left_of c.args.fields) c.loop-rest.pins c.loop-rest.room c.loop-rest.rest c.first_field.result.1 c.in-Some.«record» c.first_field.result.0.now c.in-Some.is c.first_field.ensures.all c.in_default-read_pin.ensures c.loop-rest.invariant) refl
 
-pub loop-rest-smaller-then-not-push : goal.loop-rest-smaller-then-not-push
-loop-rest-smaller-then-not-push c = rw c.in-Some.is (after_less comma c.in-Some.«record».now _ c.first_field.ensures.rest)
+pub loop-rest-smaller-then-is_err : goal.loop-rest-smaller-then-is_err
+loop-rest-smaller-then-is_err c = rw c.in-Some.is (after_less comma c.in-Some.«record».now _ c.first_field.ensures.rest)
 
-pub loop-rest-preserved-then-not-push : goal.loop-rest-preserved-then-not-push
-loop-rest-preserved-then-not-push c =
+pub loop-rest-preserved-then-is_err : goal.loop-rest-preserved-then-is_err
+loop-rest-preserved-then-is_err c =
     read_over (draft_parts c.args.draft.now) (left_of c.args.fields) c.loop-rest.pins c.push.new.self c.loop-rest.room c.loop-rest.rest c.first_field.result.1 c.in-Some.«record» c.first_field.result.0.now
-    c.in-Some-read_pin.pin c.in-Some.is c.first_field.ensures.all c.in-Some-read_pin.ensures c.if-not-push.ensures.room c.loop-rest.invariant
+    c.in-Some-read_pin.pin c.in-Some.is c.first_field.ensures.all c.in-Some-read_pin.ensures (where_refused _ _ c.push.result c.push.ensures (sym c.is_err.ensures.value ∙ c.if-is_err.true)).0 c.loop-rest.invariant
 
 pub loop-rest-smaller : goal.loop-rest-smaller
 loop-rest-smaller c = rw c.in-Some.is (after_less comma c.in-Some.«record».now _ c.first_field.ensures.rest)
@@ -27,7 +28,7 @@ loop-rest-smaller c = rw c.in-Some.is (after_less comma c.in-Some.«record».now
 pub loop-rest-preserved : goal.loop-rest-preserved
 loop-rest-preserved c =
     read_kept (draft_parts c.args.draft.now) (left_of c.args.fields) c.loop-rest.pins c.push.new.self c.loop-rest.room c.loop-rest.rest c.first_field.result.1 c.in-Some.«record» c.first_field.result.0.now
-    c.in-Some-read_pin.pin c.in-Some.is c.first_field.ensures.all c.in-Some-read_pin.ensures c.if-not-push.ensures.added c.loop-rest.invariant
+    c.in-Some-read_pin.pin c.in-Some.is c.first_field.ensures.all c.in-Some-read_pin.ensures (where_taken _ _ c.push.result c.push.ensures (sym c.is_err.ensures.value ∙ c.if-is_err.false)).1 c.loop-rest.invariant
 
 pub returns-then-not-room : goal.returns-then-not-room
 returns-then-not-room c =
