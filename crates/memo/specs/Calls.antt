@@ -13,10 +13,11 @@ number_of And = 0
 number_of Or = 1
 number_of Xor = 2
 
--- where a call is remembered, by its two numbers and the number of what it does; a fix has the bit as its second number, and a flip and a variable have 0
+-- the place that two numbers and the number of what a call does give
 abbrev pub place_at : ℕ → ℕ → ℕ → ℕ
 place_at first second number = (first % 64 + 3 * (second % 64) + number) % 64
 
+-- where a call is remembered: a fix has the bit as its second number, and a flip and a variable have 0
 unfoldable pub place_of : Call → ℕ
 place_of (Join op f g) = place_at f g (number_of op)
 place_of (Flip f) = place_at f 0 3
