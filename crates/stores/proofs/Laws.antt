@@ -159,16 +159,7 @@ join_next rule m m' m'' op fs i j f g r k a s t y =
     makes_next rule m m' m'' _ fs (joined op (at m'.held i) (at m'.held j)) (joined op f g) r k a (s.within, t.within)
     (joined_same m.inputs op (at m'.held i) f (at m'.held j) g (rw n at s.means) (rw n at t.means)) y
 
--- A store stays good, whatever is yielded, released or started.
-pub good_gained : (rule : Rule) (m m' : Meaning) (fs : List Function) → Good m → Gained rule m fs m' → Good m'
-good_gained rule m m' fs g a =
-    let n = a.grown.inputs_kept in
-    let b : m'.held ≡ never ∷ always ∷ (g.others ++ a.grown.added) = a.grown.longer ∙ ap (λ x. x ++ a.grown.added) g.begins in
-    let d : different m.inputs (never ∷ always ∷ (g.others ++ a.grown.added)) ≡ true = rw b at a.apart in
-    let k = ap (count m.inputs) b ∙ count_held m.inputs (g.others ++ a.grown.added) d in
-    let w = g.few in
-    record { others = g.others ++ a.grown.added; begins = b; apart = rw n a.apart; fits = omega (arith, a.fits, a.grown.places_kept); few = omega (arith, n, a.grown.most_kept) }
-
+-- A store that is cut stays good.
 pub good_cut : (m : Meaning) (k : ℕ) → Good m → 2 ≤ k → Good (cut m k)
 good_cut m k g l =
     let i : k ≡ suc (suc (k - 2)) = omega arith in

@@ -3,7 +3,7 @@ use Rattle.std.proofs.Common.{◌≡◌, ℕ, zero, suc, ◌+◌, ◌-◌, ◌*�
 use native.Mathlib.Nat.{add-mod_left}
 use Rattle.std.proofs.lemmas.Nat.{one_shl}
 use Rattle.std.proofs.lemmas.Nat.Bits.{bit_at_and, bit_at_or, bit_at_xor, bit_at-zero, bit_at_ones, bit_at-lt, same_from_bits_below, bit_at_cat_low, bit_at_cat_high}
-use lib.Bits.{or_shifted, bit_and, bit_or, bit_xor}
+use lib.Bits.{or_shifted, bit_and, bit_or, bit_xor, and_lt, or_lt, xor_lt}
 use lib.Arith.{digits_lt}
 use Rattle.std.proofs.lemmas.Bool.Decides.{nat_tests}
 use Rattle.std.proofs.lemmas.Bool.{cases_lt}
@@ -48,6 +48,9 @@ xor_small x y l m = grind (arith, nat_tests)
 
 pub bit-xor : (a b p : ℕ) → bit (bit_xor a b) p ≡ differ (bit a p) (bit b p)
 bit-xor a b p = rw (bit_at_xor a b p) (xor_small _ _ (bit_at-lt a p) (bit_at-lt b p))
+
+-- what the operations make of bits
+pub ruleset bits_joined = (bit-and, bit-or, bit-xor, and_lt, or_lt, xor_lt)
 
 pub bit_zero : (p : ℕ) → bit 0 p ≡ false
 bit_zero p = rw (bit_at-zero p)

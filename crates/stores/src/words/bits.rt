@@ -29,6 +29,7 @@ pub(super) fn stripes(k: usize) -> u64
 }
 
 // The and, the or, or the xor of two words.
+#[tactic(auto, using(crate::proofs::WordBits::bits_joined))]
 pub(super) fn combined(op: Operation, x: u64, y: u64) -> u64
     ensures bits { (p : ℕ) → bit result p ≡ combine op (bit x p) (bit y p) }
     ensures fits { (k : ℕ) → x < 2 ^ k → y < 2 ^ k → result < 2 ^ k }
@@ -41,6 +42,7 @@ pub(super) fn combined(op: Operation, x: u64, y: u64) -> u64
 }
 
 // The half of a word where e is the bit, written twice.
+#[tactic(auto, using(crate::proofs::WordBits::half_below))]
 pub(super) fn repeated(inputs: usize, w: u64, bit: bool) -> u64
     requires few { inputs ≤ 5 }
     requires fits { w < 2 ^ points inputs }

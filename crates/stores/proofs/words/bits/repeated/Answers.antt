@@ -1,19 +1,10 @@
 use Rattle.std.proofs.Common.{◌≡◌, ◌/◌, ◌%◌, ◌^◌, cond, ap, ◌∙◌, pow_pos}
-use Rattle.stores.proofs.WordBits.{half_is, half_below, whole_is, repeated_is, twice_fits, twice_below, word_fix}
+use Rattle.stores.proofs.WordBits.{half_is, whole_is, repeated_is, twice_fits, twice_below, word_fix}
 use Rattle.stores.proofs.words.bits.repeated.Goals as goal
 use Rattle.stores.proofs.words.bits.repeated.Goals.{then-bit, else-bit}
 
-pub overflow_shr-part : goal.overflow_shr-part
-overflow_shr-part c = half_below c.args.inputs c.requires.few
-
-pub overflow_shl-part : goal.overflow_shl-part
-overflow_shl-part c = half_below c.args.inputs c.requires.few
-
 pub nonzero_rem-part : goal.nonzero_rem-part
 nonzero_rem-part c = rw (whole_is c.args.inputs c.requires.few) (pow_pos (2 ^ c.args.inputs))
-
-pub overflow_shl-result : goal.overflow_shl-result
-overflow_shl-result c = half_below c.args.inputs c.requires.few
 
 pub returns : goal.returns
 returns c =
