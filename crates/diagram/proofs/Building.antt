@@ -1,5 +1,5 @@
 -- What a sound diagram store holds, and how it comes to hold a node.
-use Rattle.std.proofs.Common.{◌≡◌, ℕ, zero, suc, ◌+◌, ◌-◌, ◌<◌, ◌≤◌, true, false, List, [], ◌∷◌, ◌++◌, length, replicate, get_or, set, length-set, Some, None, Ok, sym, refl, ap, ◌∙◌, subst, inl, inr, arith}
+use Rattle.std.proofs.Common.{◌≡◌, ℕ, zero, suc, ◌+◌, ◌-◌, ◌<◌, ◌≤◌, true, false, List, [], ◌∷◌, ◌++◌, length, replicate, get_or, set, length-set, Some, None, Option, Ok, sym, refl, ap, ◌∙◌, subst, inl, inr, arith}
 use lib.ListN.{length-replicate}
 use lib.Seq.{get_or_at}
 use Rattle.std.proofs.lemmas.List.{get_or-replicate}
@@ -23,7 +23,7 @@ use Rattle.diagram.proofs.Canonical.{functions_differ, canonical, new_function, 
 pub extends_none : (n len : ℕ) (rows : List Row) → ExtendsOf n len rows n len rows
 extends_none n len rows = record { inputs_kept = refl; longer = omega arith; size_kept = refl; rows_kept = λ k l. refl }
 
-module _ (n len : ℕ) (rows : List Row) (heads : List ℕ) (s : SoundOf n len rows heads) where
+module _ (n len : ℕ) (rows : List Row) (heads : List (Option ℕ)) (s : SoundOf n len rows heads) where
   unfoldable pub good : Good (meaning_of n len rows)
   good =
       let (rest, e) = functions_grown n rows 0 len (omega arith) in
@@ -124,7 +124,7 @@ module _ (n len : ℕ) (rows : List Row) (heads : List ℕ) (s : SoundOf n len r
                   none j (omega arith) (p' ∙ q)
             ]
 
-        pub sound_more : (heads' : List ℕ) → LinkedOf (len + 1) rows' heads' → SoundOf n (len + 1) rows' heads'
+        pub sound_more : (heads' : List (Option ℕ)) → LinkedOf (len + 1) rows' heads' → SoundOf n (len + 1) rows' heads'
         sound_more heads' linked = record { few = s.few; reduced = record { ordered = ordered_more; once = once_more }; linked = linked }
 
         pub extends_more : ExtendsOf n len rows n (len + 1) rows'
@@ -169,10 +169,10 @@ module _ (n len : ℕ) (rows : List Row) (heads : List ℕ) (s : SoundOf n len r
       -- the new row at the head of its chain b
       module _ (room : len < length rows) (b : ℕ) (e : b ≡ chain made) (few : b < 1024) where
         abbrev new_row : Row
-        new_row = record { node = made; next = get_or heads b 0 }
+        new_row = record { node = made; next = get_or heads b None }
 
-        linked : new_row.next ≡ get_or heads (chain made) 0
-        linked = ap (λ x. get_or heads x 0) e
+        linked : new_row.next ≡ get_or heads (chain made) None
+        linked = ap (λ x. get_or heads x None) e
 
         in_chain : chain made < 1024
         in_chain = subst (λ x. x < 1024) e few
@@ -188,17 +188,17 @@ module _ (n len : ℕ) (rows : List Row) (heads : List ℕ) (s : SoundOf n len r
               row_new = ap (λ x. x.node) here;
             }
 
-        pub row_sound : SoundOf n (len + 1) (set rows len new_row) (set heads b (len + 2))
+        pub row_sound : SoundOf n (len + 1) (set rows len new_row) (set heads b (Some (len + 2)))
         row_sound =
             let size = length-set rows len new_row in
-            sound_more (set rows len new_row) row_appended (set heads b (len + 2)) (record {
+            sound_more (set rows len new_row) row_appended (set heads b (Some (len + 2))) (record {
               within = omega arith;
               bounded = omega (arith, s.linked.bounded);
-              chained = subst (λ x. Chained (len + 1) (set rows len new_row) (set heads x (len + 2))) (sym e) (chained_more len rows heads new_row s.linked.chained room linked in_chain);
+              chained = subst (λ x. Chained (len + 1) (set rows len new_row) (set heads x (Some (len + 2)))) (sym e) (chained_more len rows heads new_row s.linked.chained room linked in_chain);
             })
 
 -- a store without its newest row, which was taken off the head of its chain b
-pub less_sound : (n len : ℕ) (rows : List Row) (heads : List ℕ) → SoundOf n len rows heads → 0 < len → (b : ℕ) → b ≡ chain (row rows (len - 1)).node → b < 1024 → SoundOf n (len - 1) rows (set heads b (row rows (len - 1)).next)
+pub less_sound : (n len : ℕ) (rows : List Row) (heads : List (Option ℕ)) → SoundOf n len rows heads → 0 < len → (b : ℕ) → b ≡ chain (row rows (len - 1)).node → b < 1024 → SoundOf n (len - 1) rows (set heads b (row rows (len - 1)).next)
 less_sound n len rows heads s some b e few =
     let k = len - 1 in
     let z : len ≡ suc k = omega arith in
@@ -213,7 +213,7 @@ less_sound n len rows heads s some b e few =
     }
 
 -- a store before its first start, or after a start
-pub new_sound : (n : ℕ) (rows : List Row) → n ≤ 12 → length rows ≤ 4096 → SoundOf n 0 rows (replicate 1024 0)
+pub new_sound : (n : ℕ) (rows : List Row) → n ≤ 12 → length rows ≤ 4096 → SoundOf n 0 rows (replicate 1024 None)
 unfolding newest
 new_sound n rows few bounded = record {
   few = few;
@@ -221,6 +221,6 @@ new_sound n rows few bounded = record {
   linked = record {
     within = omega arith;
     bounded = bounded;
-    chained = record { many = length-replicate {A = ℕ} 1024 0; starts = λ b l. get_or-replicate 1024 b 0 0 l; links = λ k l. let z : ⊥ = omega arith in absurd z };
+    chained = record { many = length-replicate {A = Option ℕ} 1024 None; starts = λ b l. get_or-replicate 1024 b None None l; links = λ k l. let z : ⊥ = omega arith in absurd z };
   };
 }

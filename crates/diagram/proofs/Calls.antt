@@ -1,5 +1,5 @@
 -- What the calls of a diagram store answer and leave.
-use Rattle.std.proofs.Common.{◌≡◌, ℕ, zero, suc, ◌+◌, ◌-◌, ◌*◌, ◌%◌, ◌^◌, ◌<◌, ◌≤◌, Bool, true, false, cond, not, eqb, List, [], ◌∷◌, length, take, Ok, Err, Result, sym, refl, ap, ◌∙◌, subst, zero-add, zero-mul, arith}
+use Rattle.std.proofs.Common.{◌≡◌, ℕ, zero, suc, ◌+◌, ◌-◌, ◌*◌, ◌%◌, ◌^◌, ◌<◌, ◌≤◌, Bool, true, false, cond, not, eqb, List, [], ◌∷◌, length, take, Ok, Err, Result, Option, sym, refl, ap, ◌∙◌, subst, zero-add, zero-mul, arith}
 use native.Mathlib.Nat.{div-eq_of_lt}
 use Rattle.stores.specs.declared.fault.StoreFault.{StoreFault}
 use Rattle.stores.specs.declared.fault.StoreFault.TheVariants.{Inputs, Places, Bounds}
@@ -52,7 +52,7 @@ cut_meaning n len rows m n' len' rows' two top c =
     let e : functions n rows (m - 2) ≡ take m (functions n rows len) = sym (functions_take n rows (m - 2) len (omega arith)) ∙ ap (λ x. take x (functions n rows len)) (sym i) in
     ap (λ x. meaning_of x len' rows') c.inputs_kept ∙ (ap (λ x. meaning_of n x rows') c.len_is ∙ (ap (λ x. meaning_of n (m - 2) x) c.rows_kept ∙ cc e))
 
-module _ (n len : ℕ) (rows : List Row) (heads : List ℕ) (s : SoundOf n len rows heads) where
+module _ (n len : ℕ) (rows : List Row) (heads : List (Option ℕ)) (s : SoundOf n len rows heads) where
   pub held : (h : ℕ) → h < len + 2 → h < length (functions n rows len)
   held h l = omega (arith, functions_length n rows len)
 

@@ -1,5 +1,5 @@
 -- Joining part by part: what the joins of the parts gain is kept for the join of the whole.
-use Rattle.std.proofs.Common.{◌≡◌, ℕ, zero, suc, ◌+◌, ◌-◌, ◌<◌, ◌≤◌, min, true, false, ◌||◌, ◌⊎◌, List, [], ◌∷◌, ◌++◌, IsErrAnd, Some, Ok, Err, Result, sym, refl, ap, ◌∙◌, subst, inl, inr, arith}
+use Rattle.std.proofs.Common.{◌≡◌, ℕ, zero, suc, ◌+◌, ◌-◌, ◌<◌, ◌≤◌, min, true, false, ◌||◌, ◌⊎◌, List, [], ◌∷◌, ◌++◌, IsErrAnd, Some, Option, Ok, Err, Result, sym, refl, ap, ◌∙◌, subst, inl, inr, arith}
 use Rattle.std.proofs.lemmas.Bool.{both_ways, or_cases, or_left, or_right}
 use Rattle.stores.specs.declared.fault.StoreFault.{StoreFault}
 use Rattle.stores.specs.declared.fault.StoreFault.TheVariants.{Inputs, Places, Bounds}
@@ -71,7 +71,7 @@ module _ (n : ℕ) (r : Function) where
       ]
 
 -- one that needs no row
-module _ (n len : ℕ) (rows : List Row) (heads : List ℕ) (s : SoundOf n len rows heads) (op : Operation) (f g : ℕ) (held_f : f < len + 2) (held_g : g < len + 2) where
+module _ (n len : ℕ) (rows : List Row) (heads : List (Option ℕ)) (s : SoundOf n len rows heads) (op : Operation) (f g : ℕ) (held_f : f < len + 2) (held_g : g < len + 2) where
   settled_held : (h : ℕ) → (h < 2) ⊎ ((h ≡ f) ⊎ (h ≡ g)) → h < len + 2
   settled_held h c = elim c [ inl l ↦ omega arith | inr d ↦ elim d [ inl e ↦ omega arith | inr e ↦ omega arith ] ]
 
@@ -96,7 +96,7 @@ module _ (n len : ℕ) (rows : List Row) (heads : List ℕ) (s : SoundOf n len r
       stays n len rows heads s h (joined op (at F f) (at F g)) (min (top n rows f) (top n rows g)) (settled_held h c) (λ p q. bits (λ i. at F i p) (zeros p) (ones p)) (settled_top h c)
 
 -- one by parts: f is f₀ and f₁, and g is g₀ and g₁, where variable v is 0 and where it is 1
-module _ (n len : ℕ) (rows : List Row) (heads : List ℕ) (s : SoundOf n len rows heads) (op : Operation) (f g v f₀ f₁ g₀ g₁ : ℕ) (pf : LaterOf n len rows v f₀ f₁ × Same n (at (functions n rows len) f) (node n v (at (functions n rows len) f₀) (at (functions n rows len) f₁))) (pg : LaterOf n len rows v g₀ g₁ × Same n (at (functions n rows len) g) (node n v (at (functions n rows len) g₀) (at (functions n rows len) g₁))) where
+module _ (n len : ℕ) (rows : List Row) (heads : List (Option ℕ)) (s : SoundOf n len rows heads) (op : Operation) (f g v f₀ f₁ g₀ g₁ : ℕ) (pf : LaterOf n len rows v f₀ f₁ × Same n (at (functions n rows len) f) (node n v (at (functions n rows len) f₀) (at (functions n rows len) f₁))) (pg : LaterOf n len rows v g₀ g₁ × Same n (at (functions n rows len) g) (node n v (at (functions n rows len) g₀) (at (functions n rows len) g₁))) where
   abbrev whole : Function
   whole = joined op (at (functions n rows len) f) (at (functions n rows len) g)
 

@@ -1,10 +1,10 @@
 -- The chains of rows: each row is linked to the newest earlier row of its chain, and each chain has a head, its newest row.
-use Rattle.std.specs.Prelude.{◌≡◌, ℕ, zero, suc, ◌+◌, ◌*◌, ◌%◌, ◌<◌, ◌≤◌, cond, List, length, Some, None, Option, ◌==◌, slice_index, slice_index_or}
+use Rattle.std.specs.Prelude.{◌≡◌, ℕ, zero, suc, ◌+◌, ◌*◌, ◌%◌, ◌<◌, ◌≤◌, cond, List, length, Some, None, Option, ◌==◌, slice_index_or}
 use Rattle.diagram.specs.declared.row.Node.{Node}
 use Rattle.diagram.specs.declared.row.Row.{Row}
 
 abbrev pub blank : Row
-blank = record { node = record { variable = 0; low = 0; high = 0 }; next = 0 }
+blank = record { node = record { variable = 0; low = 0; high = 0 }; next = None }
 
 -- the row at a place
 abbrev pub row : List Row → ℕ → Row
@@ -14,19 +14,19 @@ row rows k = slice_index_or rows k blank
 unfoldable pub chain : Node → ℕ
 chain m = (m.variable + 31 * m.low + 509 * m.high) % 1024
 
--- the handle of the newest of the first k rows that is in a chain, or 0
-unfoldable pub newest : List Row → ℕ → ℕ → ℕ
-newest rows b zero = 0
-newest rows b (suc k) = cond (chain (row rows k).node == b) (k + 2) (newest rows b k)
+-- the handle of the newest of the first k rows that is in a chain
+unfoldable pub newest : List Row → ℕ → ℕ → Option ℕ
+newest rows b zero = None
+newest rows b (suc k) = cond (chain (row rows k).node == b) (Some (k + 2)) (newest rows b k)
 
 -- The heads and the links of the first len rows are right.
-pub record Chained (len : ℕ) (rows : List Row) (heads : List ℕ) : Type 0 where
+pub record Chained (len : ℕ) (rows : List Row) (heads : List (Option ℕ)) : Type 0 where
   pub many : length heads ≡ 1024
-  pub starts : (b : ℕ) → b < 1024 → slice_index heads b ≡ newest rows b len
+  pub starts : (b : ℕ) → b < 1024 → slice_index_or heads b None ≡ newest rows b len
   pub links : (k : ℕ) → k < len → (row rows k).next ≡ newest rows (chain (row rows k).node) k
 
 -- The rows are found by their chains.
-pub record LinkedOf (len : ℕ) (rows : List Row) (heads : List ℕ) : Type 0 where
+pub record LinkedOf (len : ℕ) (rows : List Row) (heads : List (Option ℕ)) : Type 0 where
   pub within : len ≤ length rows
   pub bounded : length rows ≤ 4096
   pub chained : Chained len rows heads

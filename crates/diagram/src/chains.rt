@@ -19,13 +19,13 @@ impl Diagram<'_> {
     pub(crate) fn find(&self, node: Node) -> Option<usize>
         ensures { Standing self.now node result }
     {
-        let mut h = self.heads[chain_of(node)] as usize;
-        while h != 0 {
-            let row = self.rows[h - 2];
+        let mut link = self.heads[chain_of(node)];
+        while let Some(h) = link {
+            let row = self.rows[h as usize - 2];
             if row.node == node {
-                return Some(h);
+                return Some(h as usize);
             }
-            h = row.next as usize;
+            link = row.next;
         }
         None
     }
@@ -42,7 +42,7 @@ impl Diagram<'_> {
         let b = chain_of(node);
         let next = self.heads[b];
         self.rows[len] = Row { node, next };
-        self.heads[b] = (len + 2) as u16;
+        self.heads[b] = Some((len + 2) as u16);
         self.len = len + 1;
     }
 

@@ -11,8 +11,8 @@ use stores::StoreFault;
 #[derive(Drop)]
 pub struct Diagram<'a> {
     pub(crate) rows: &'a mut [Row],
-    // the handle of each chain's newest row, or 0
-    pub(crate) heads: [u16; 1024],
+    // the handle of each chain's newest row
+    pub(crate) heads: [Option<u16>; 1024],
     pub(crate) len: usize,
     pub(crate) inputs: usize,
     ghost sound: { SoundOf inputs len rows.now heads },
@@ -29,8 +29,8 @@ impl<'a> Diagram<'a> {
     {
         let count = rows.len().min(4096);
         Diagram {
-            rows: &mut rows[0..count],
-            heads: [0; 1024],
+            rows: &mut rows[..count],
+            heads: [None; 1024],
             len: 0,
             inputs: 0,
         }
@@ -57,9 +57,9 @@ impl<'a> Diagram<'a> {
         if h < 2 {
             return (h, h);
         }
-        let row = self.rows[h - 2];
-        if row.node.variable as usize == v {
-            (row.node.low as usize, row.node.high as usize)
+        let node = self.rows[h - 2].node;
+        if node.variable as usize == v {
+            (node.low as usize, node.high as usize)
         } else {
             (h, h)
         }
@@ -97,12 +97,12 @@ impl<'a> Diagram<'a> {
     {
         let mut h = f;
         while h >= 2 {
-            let row = self.rows[h - 2];
-            let set = (p >> (self.inputs - row.node.variable as usize)) % 2 == 1;
+            let node = self.rows[h - 2].node;
+            let set = (p >> (self.inputs - node.variable as usize)) % 2 == 1;
             h = if set {
-                row.node.high as usize
+                node.high as usize
             } else {
-                row.node.low as usize
+                node.low as usize
             };
         }
         h == 1

@@ -13,7 +13,7 @@ pub(crate) struct Node {
 #[derive(Clone, Copy)]
 pub struct Row {
     pub(crate) node: Node,
-    pub(crate) next: u16,
+    pub(crate) next: Option<u16>,
 }
 
 impl Row {
@@ -24,6 +24,6 @@ impl Row {
             low: 0,
             high: 0,
         },
-        next: 0,
+        next: None,
     };
 }

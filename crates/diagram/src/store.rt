@@ -16,7 +16,7 @@ impl Store for Diagram<'_> {
         }
         self.inputs = inputs;
         self.len = 0;
-        self.heads = [0; 1024];
+        self.heads = [None; 1024];
         Ok(())
     }
 
