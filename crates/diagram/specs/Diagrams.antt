@@ -46,6 +46,13 @@ Cut d to d' = CutOf d.inputs d.rows.now to d'.inputs d'.len d'.rows.now
 abbrev pub Held : Diagram → ℕ → Type 0
 Held d h = h < d.len + 2
 
+-- A handle that is held is admitted, and another is refused with 15.
+abbrev pub Admits : Diagram → ℕ → Result Unit StoreFault → Type 0
+Admits d h (Ok _) = Held d h × (h < length (diagram_meaning d).held)
+Admits d h (Err Inputs) = ⊥
+Admits d h (Err Places) = ⊥
+Admits d h (Err Bounds) = h < length (diagram_meaning d).held → ⊥
+
 -- the function of a handle
 abbrev pub function_of : Diagram → ℕ → Function
 function_of d h = at (functions d.inputs d.rows.now d.len) h

@@ -51,6 +51,7 @@ impl Diagram<'_> {
         requires { to ≤ self.old.len }
         ensures { Cut self.old to self.new }
     {
+        // Row by row, so that the heads are right for the rows that are left at each turn.
         while to < self.len {
             let row = self.rows[self.len - 1];
             self.heads[chain_of(row.node)] = row.next;

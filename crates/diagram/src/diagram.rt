@@ -21,7 +21,7 @@ pub struct Diagram<'a> {
 impl<'a> Diagram<'a> {
     ghost use Rattle.stores.specs.Meaning.{empty};
     ghost use Rattle.diagram.specs.Rows.{node};
-    ghost use Rattle.diagram.specs.Diagrams.{Held, Later, Parts, Extends, Builds, RefusedInPlace, diagram_meaning, top_of, function_of};
+    ghost use Rattle.diagram.specs.Diagrams.{Held, Admits, Later, Parts, Extends, Builds, RefusedInPlace, diagram_meaning, top_of, function_of};
 
     /// A store over the rows that are lent, of which it uses the first 4096.
     pub fn new(rows: &'a mut [Row]) -> Diagram<'a>
@@ -33,6 +33,17 @@ impl<'a> Diagram<'a> {
             heads: [None; 1024],
             len: 0,
             inputs: 0,
+        }
+    }
+
+    // Refuses a handle that is not held.
+    pub(crate) fn held(&self, h: usize) -> Result<(), StoreFault>
+        ensures { Admits self.now h result }
+    {
+        if h < self.len + 2 {
+            Ok(())
+        } else {
+            Err(StoreFault::Bounds)
         }
     }
 

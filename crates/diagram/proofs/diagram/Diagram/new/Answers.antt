@@ -1,4 +1,4 @@
-use Rattle.std.proofs.Common.{◌≡◌, ◌-◌, min, length, take, ◌∙◌, arith, lit≤, length-take}
+use Rattle.std.proofs.Common.{◌≡◌, min, length, take, ◌∙◌, arith, lit≤, length-take}
 use Rattle.diagram.proofs.Building.{new_sound}
 use Rattle.diagram.proofs.Rows.{functions_none}
 use Rattle.diagram.proofs.diagram.Diagram.new.Goals as goal

@@ -2,17 +2,11 @@ use Rattle.std.proofs.Common.{◌≡◌, ap, ◌∙◌, arith}
 use Rattle.std.proofs.lemmas.Nat.{one_shl}
 use Rattle.stores.specs.Functions.{point}
 use Rattle.diagram.specs.Diagrams.{function_of}
-use Rattle.diagram.proofs.Calls.{held, not_held}
 use Rattle.diagram.proofs.store.DiagramStore.value.Goals as goal
-use Rattle.diagram.proofs.store.DiagramStore.value.Goals.{then-self-f-via-then-self-f, then-self-f-via-else-self-f+then-self-a, then-e, else-e}
+use Rattle.diagram.proofs.store.DiagramStore.value.Goals.{then-e, else-e}
 
-pub returns-then-self-f : goal.returns-then-self-f
-returns-then-self-f c h =
-    let d = c.args.self.now in
-    elim c.then-self-f.branch [
-      | then-self-f-via-then-self-f w ↦ not_held d.inputs d.len d.rows.now d.heads d.sound c.args.f w.if-self-f.true h.0
-      | then-self-f-via-else-self-f+then-self-a w ↦ omega (arith, h.1, w.if-self-a.true, one_shl d.inputs 64 (omega (arith, d.sound.few)))
-    ]
+pub returns-then-self-a : goal.returns-then-self-a
+returns-then-self-a c h = let d = c.args.self.now in omega (arith, h.1, one_shl d.inputs 64 (omega (arith, d.sound.few)))
 
 pub returns : goal.returns
 returns c =
@@ -23,4 +17,4 @@ returns c =
       | then-e w ↦ rw w.if-e.true (omega (arith, w.p-is))
       | else-e w ↦ rw w.if-e.false (omega (arith, w.p-is))
     ] in
-    (held d.inputs d.len d.rows.now d.heads d.sound c.args.f c.if-self-f.false, omega (arith, c.if-self-a.false), c.bit.ensures ∙ ap (function_of d c.args.f) at-point)
+    (c.in_ok-held.ensures.1, omega (arith, c.if-self-a.false), c.bit.ensures ∙ ap (function_of d c.args.f) at-point)
