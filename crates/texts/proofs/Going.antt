@@ -1,11 +1,14 @@
 -- Going through a text, record by record.
-use Rattle.std.proofs.Common.{◌≡◌, ℕ, ◌+◌, ◌<◌, ◌≤◌, List, length, Ok, Err, Result, sym, refl, ap, ◌∙◌, subst, add-one, arith}
+use Rattle.std.proofs.Common.{◌≡◌, ℕ, ◌+◌, ◌-◌, ◌<◌, List, length, Some, None, Ok, Err, Result, MatchResult, IsErrAnd, sym, refl, ap, ◌∙◌, subst, add-one, arith, Bor}
 use Rattle.texts.specs.declared.fault.Cause.{Cause}
+use Rattle.texts.specs.declared.fault.Cause.TheVariants.{Shape}
 use Rattle.texts.specs.declared.fault.Text.{Text}
 use Rattle.texts.specs.declared.fault.TextFault.{TextFault}
-use Rattle.texts.specs.Records.{feed, record_at}
-use Rattle.texts.specs.Walks.{record_place, fault_at, At, ended, After, none, more, Through, Stopped, stopped}
-use Rattle.texts.proofs.Splits.{before_end}
+use Rattle.texts.specs.declared.records.Records.{Records}
+use Rattle.texts.specs.declared.records.Spot.{Spot}
+use Rattle.texts.specs.Nexts.{spot_fault, spot_at, NextRecord}
+use Rattle.texts.specs.Records.{record_at}
+use Rattle.texts.specs.Walks.{record_place, fault_at, At, unended, ended, After, none, more, Stopped, stopped}
 
 pub place_none : (bs : List ℕ) → record_place bs 0 ≡ 0
 unfolding record_place
@@ -15,50 +18,94 @@ pub place_more : (bs : List ℕ) (n : ℕ) → record_place bs (n + 1) ≡ recor
 unfolding record_place
 place_more bs n = ap (record_place bs) (add-one n)
 
+-- where the record after this one begins
+pub place_next : (bs : List ℕ) (n place long : ℕ) → place ≡ record_place bs n → long ≡ length (record_at bs place) → place + (long + 1) ≡ record_place bs (n + 1)
+place_next bs n place long e f =
+    let i : place + (long + 1) ≡ place + length (record_at bs place) + 1 = omega arith in
+    i ∙ (ap (λ p. p + length (record_at bs p) + 1) e ∙ sym (place_more bs n))
+
+-- what the result of taking a record was, by the one that tells its fault
+module _ {X : Type 0} (tells : Cause → TextFault → Type 0) (r : Result X Cause) (m : Result X TextFault) (cases : MatchResult r (λ y. m ≡ Ok y) (λ c. IsErrAnd m (tells c))) where
+  pub mapped_ok : (x : X) → m ≡ Ok x → r ≡ Ok x
+  mapped_ok x was =
+      elim r as (λ z. MatchResult z (λ y. m ≡ Ok y) (λ c. IsErrAnd m (tells c)) → z ≡ Ok x) [
+        | Ok y ↦ λ e. let same : y ≡ x = cc in ap Ok same
+        | Err c ↦ λ e. absurd (subst (λ y. IsErrAnd y (tells c)) was e)
+      ] cases
+
+  pub mapped_err : (told : Cause → TextFault) (f : TextFault) → m ≡ Err f → ((c : Cause) → tells c f → f ≡ told c) → (c : Cause) × (r ≡ Err c) × (f ≡ told c)
+  mapped_err told f was k =
+      elim r as (λ z. MatchResult z (λ y. m ≡ Ok y) (λ c. IsErrAnd m (tells c)) → (c : Cause) × (z ≡ Err c) × (f ≡ told c)) [
+        | Ok y ↦ λ e. let z : ◌≡◌ {A = ℕ} 0 1 = cc in absurd (omega arith)
+        | Err c ↦ λ e. (c, refl, k c (subst (λ y. IsErrAnd y (tells c)) was e))
+      ] cases
+
+pub spot_same : (s : Spot) (n p l : ℕ) → s.number ≡ n → s.place ≡ p → s.length ≡ l → s ≡ record { number = n; place = p; length = l }
+spot_same s n p l e f g =
+    let spot : ℕ → ℕ → ℕ → Spot = λ a b d. record { number = a; place = b; length = d } in
+    ap (λ a. spot a s.place s.length) e ∙ (ap (λ b. spot n b s.length) f ∙ ap (λ d. spot n p d) g)
+
+-- what is told of a record, by where it is
+told_same : (bs : List ℕ) (text : Text) (c : Cause) (n place : ℕ) (p : Spot) → place ≡ record_place bs n → p ≡ spot_at bs n place → fault_at text bs n c ≡ spot_fault text p c
+told_same bs text c n place p e f = sym (ap (λ x. spot_fault text x c) (f ∙ ap (spot_at bs n) e))
+
 module _ {S : Type 0} (step : S → List ℕ → Result S Cause → Type 0) (bs : List ℕ) (start : S) where
-  -- n records are taken, and the next one begins at the place
-  pub record Going (n place : ℕ) (s : S) : Type 0 where
-    pub taken : After step bs start n s
-    pub here : place ≡ record_place bs n
-    pub within : place ≤ length bs
-    pub few : n ≤ place
+  -- no record is taken yet
+  pub going_none : (n : ℕ) (p : S) → n ≡ 0 → p ≡ start → After step bs start n p
+  going_none n p e f = subst (λ k. After step bs start k p) (sym e) (subst (After step bs start 0) (sym f) none)
 
-  pub going_none : (s : S) → s ≡ start → Going 0 0 s
-  going_none s e = record { taken = subst (After step bs start 0) (sym e) none; here = sym (place_none bs); within = omega arith; few = omega arith }
+module _ {S : Type 0} (step : S → List ℕ → Result S Cause → Type 0) (bs : List ℕ) (start : S) (s : Records) (same : s.text.now ≡ bs) where
+  here : s.place ≡ record_place bs s.earlier
+  here = s.here ∙ ap (λ x. record_place x s.earlier) same
 
-  -- a record that was taken has a line feed
-  pub fed : (place : ℕ) (s s' : S) → At step bs place s (Ok s') → place + length (record_at bs place) < length bs
-  fed place s s' (ended r on h) = on
+  -- the record that is given next
+  module _ (t : Records) (r : Spot × Bor (List ℕ)) (next : NextRecord s (Some r) t) where
+    part : r.1.now ≡ record_at bs (record_place bs s.earlier)
+    part = next.3 ∙ (ap (λ x. record_at x s.place) same ∙ ap (record_at bs) here)
 
-  pub going_more : (n place m long : ℕ) (s s' : S) → place < length bs → long ≡ length (record_at bs place) → m ≡ place + (long + 1) → At step bs place s (Ok s') → Going n place s → Going (n + 1) m s'
-  going_more n place m long s s' inside e f h g =
-      let on = fed place s s' h in
-      let at : m ≡ record_place bs n + length (record_at bs (record_place bs n)) + 1 =
-      let l = ap (λ p. length (record_at bs p)) g.here in let q = g.here in omega arith
-      in
-      record {
-        taken = more n s s' g.taken (subst (λ p. p < length bs) g.here inside) (subst (λ p. At step bs p s (Ok s')) g.here h);
-        here = at ∙ sym (place_more bs n);
-        within = omega arith;
-        few = omega (arith, g.few);
-      }
+    on : record_place bs s.earlier + length (record_at bs (record_place bs s.earlier)) < length bs
+    on = subst (λ p. p + length (record_at bs p) < length bs) here (subst (λ x. s.place + length (record_at x s.place) < length x) same next.4)
 
-  pub going_stopped : (text : Text) (n place long : ℕ) (s : S) (c : Cause) → place < length bs → long ≡ length (record_at bs place) → At step bs place s (Err c) → Going n place s → Stopped step text bs start (record { cause = c; text = text; «record» = n + 1; place = place; length = long })
-  going_stopped text n place long s c inside e h g =
-      let told : ℕ → ℕ → TextFault = λ p l. record { cause = c; text = text; «record» = n + 1; place = p; length = l } in
-      let same : fault_at text bs n c ≡ record { cause = c; text = text; «record» = n + 1; place = place; length = long } =
-      ap (λ p. told p (length (record_at bs p))) (sym g.here) ∙ ap (λ l. told place l) (sym e)
-      in
-      subst (Stopped step text bs start) same (stopped n s c g.taken (subst (λ p. p < length bs) g.here inside) (subst (λ p. At step bs p s (Err c)) g.here h))
+    inside : record_place bs s.earlier < length bs
+    inside = let k = on in omega arith
 
-  pub going_all : (n place : ℕ) (s : S) → length bs ≤ place → Going n place s → record_place bs n ≡ length bs
-  going_all n place s over g = sym g.here ∙ omega (arith, g.within)
+    at : (p : S) (q : Result S Cause) → step p r.1.now q → At step bs (record_place bs s.earlier) p q
+    at p q h = ended q on (subst (λ x. step p x q) part h)
 
-  pub going_through : (n place : ℕ) (s : S) → length bs ≤ place → Going n place s → Through step bs start s
-  going_through n place s over g = record { records = n; taken = g.taken; all = going_all n place s over g }
+    pub going_more : (p p' : S) → After step bs start s.earlier p → step p r.1.now (Ok p') → After step bs start t.earlier p'
+    going_more p p' taken h = subst (λ n. After step bs start n p') (sym next.1) (more s.earlier p p' taken inside (at p (Ok p') h))
 
-  -- what is told past the end
-  pub going_end : (text : Text) (n place : ℕ) (s : S) (c : Cause) → length bs ≤ place → Going n place s → fault_at text bs n c ≡ record { cause = c; text = text; «record» = n + 1; place = place; length = 0 }
-  going_end text n place s c over g =
-      let told : ℕ → ℕ → TextFault = λ p l. record { cause = c; text = text; «record» = n + 1; place = p; length = l } in
-      ap (λ p. told p (length (record_at bs p))) (sym g.here) ∙ ap (λ l. told place l) (before_end feed bs place over)
+    pub going_stopped : (text : Text) (p : S) (c : Cause) (f : TextFault) → f ≡ spot_fault text r.0 c → After step bs start s.earlier p → step p r.1.now (Err c) → Stopped step text bs start f
+    going_stopped text p c f e taken h =
+        subst (Stopped step text bs start) (told_same bs text c s.earlier s.place r.0 here (next.2 ∙ ap (λ x. spot_at x s.earlier s.place) same) ∙ sym e) (stopped s.earlier p c taken inside (at p (Err c) h))
+
+  -- no record is given any more
+  module _ (t : Records) (r : Spot) (gone : NextRecord s None t) (number : r.number ≡ t.earlier + 1) (place : r.place ≡ t.place) (long : r.length ≡ length t.text.now - t.place) where
+    left : record_place bs s.earlier + length (record_at bs (record_place bs s.earlier)) ≡ length bs
+    left = subst (λ p. p + length (record_at bs p) ≡ length bs) here (subst (λ x. s.place + length (record_at x s.place) ≡ length x) same gone.1)
+
+    rest : r.length ≡ length (record_at bs (record_place bs s.earlier))
+    rest =
+        let h = here in
+        let l = left in
+        let k = ap length same in
+        let m = long ∙ ap (λ (x : Records). length x.text.now - x.place) gone.0 in
+        omega arith
+
+    pub going_end : (text : Text) (c : Cause) (f : TextFault) → f ≡ spot_fault text r c → fault_at text bs s.earlier c ≡ f
+    going_end text c f e =
+        let n = number ∙ ap (λ (x : Records). x.earlier + 1) gone.0 in
+        let p = place ∙ (ap (λ (x : Records). x.place) gone.0 ∙ here) in
+        let l = rest in
+        told_same bs text c s.earlier (record_place bs s.earlier) r refl (spot_same r _ _ _ n p l) ∙ sym e
+
+    -- what is left is a record without a line feed,
+    pub going_unended : (text : Text) (p : S) (f : TextFault) → f ≡ spot_fault text r Shape → (r.length ≡ 0 → ⊥) → After step bs start s.earlier p → Stopped step text bs start f
+    going_unended text p f e some taken =
+        let l = left in
+        let k = rest in
+        subst (Stopped step text bs start) (going_end text Shape f e) (stopped s.earlier p Shape taken (omega arith) (unended left))
+
+    -- or nothing
+    pub going_all : r.length ≡ 0 → record_place bs s.earlier ≡ length bs
+    going_all nothing = let l = left in let k = rest in omega arith

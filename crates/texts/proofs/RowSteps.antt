@@ -1,14 +1,13 @@
 -- What one record of the specification does.
-use Rattle.std.proofs.Common.{◌≡◌, ℕ, ◌+◌, ◌<◌, true, false, List, length, Ok, Err, Result, subst, MatchResult}
+use Rattle.std.proofs.Common.{◌≡◌, ℕ, true, false, List, Ok, Err, Result, subst, MatchResult}
 use Rattle.std.proofs.lemmas.Bool.{both_ways}
 use Rattle.circuits.specs.Drafts.{Parts}
 use Rattle.circuits.specs.Names.{is_name}
 use Rattle.texts.specs.declared.fault.Cause.{Cause}
 use Rattle.texts.specs.Adding.{RowAdded, RowRefused}
-use Rattle.texts.specs.Records.{record_at, fields}
+use Rattle.texts.specs.Records.{fields}
 use Rattle.texts.specs.Shapes.{row_fields}
 use Rattle.texts.specs.Specification.{SpellsRow, RowStep, refused, added}
-use Rattle.texts.specs.Walks.{At, ended}
 
 -- The fields of a row are one list only.
 pub no_row : (bs o p v : List ℕ) → fields bs ≡ row_fields o p v → is_name o ≡ false → (x q w : List ℕ) → SpellsRow bs x q w → ⊥
@@ -20,10 +19,3 @@ no_row bs o p v e bad x q w h =
 pub row_step : (d d' : Parts) (bs x p v : List ℕ) (r : Result Unit Cause) → SpellsRow bs x p v → MatchResult r (λ _. RowAdded d x p v d') (λ c. RowRefused d x p v c × (d' ≡ d)) → MatchResult r (λ _. RowStep d bs (Ok d')) (λ c. RowStep d bs (Err c))
 row_step d d' bs x p v (Ok u) h w = added x p v d' h w
 row_step d d' bs x p v (Err c) h w = refused x p v c h w.0
-
--- a record that ends with a line feed
-pub row_at :
-    (d d' : Parts) (bs part : List ℕ) (place : ℕ) (r : Result Unit Cause) → part ≡ record_at bs place → place + length (record_at bs place) < length bs → MatchResult r (λ _. RowStep d part (Ok d')) (λ c. RowStep d part (Err c)) →
-    MatchResult r (λ _. At RowStep bs place d (Ok d')) (λ c. At RowStep bs place d (Err c))
-row_at d d' bs part place (Ok u) e on h = ended (Ok d') on (subst (λ x. RowStep d x (Ok d')) e h)
-row_at d d' bs part place (Err c) e on h = ended (Err c) on (subst (λ x. RowStep d x (Err c)) e h)

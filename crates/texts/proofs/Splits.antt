@@ -1,22 +1,18 @@
 -- Bytes before and after the first of a kind, and the fields of a record.
-use Rattle.std.proofs.Common.{◌≡◌, ℕ, suc, ◌+◌, ◌-◌, ◌<◌, ◌≤◌, true, false, cond, eqb, List, [], ◌∷◌, length, get_or, take, drop, Some, None, Option, sym, refl, ap, ◌∙◌, ⊎_elim, arith}
-use Rattle.std.proofs.lemmas.List.{at_drop_more, at_drop_all, take_all, take_rest, length-drop}
-use Rattle.std.proofs.lemmas.Bool.{cases_eq, cond-true, cond-false, eq-eqb, ne_eqb}
+use Rattle.std.proofs.Common.{◌≡◌, ℕ, suc, ◌+◌, ◌-◌, ◌<◌, ◌≤◌, true, false, cond, eqb, ltb, List, [], ◌∷◌, length, take, drop, Some, None, Option, MatchOption, sym, refl, ap, ◌∙◌, ⊎_elim, inl, inr, arith}
+use Rattle.std.proofs.lemmas.List.{at_drop_all, take_all, take_rest, length-drop}
+use Rattle.std.proofs.lemmas.Bool.{cases_eq, cases_Bool, cond-true, cond-false, ltb-true, ltb-false}
+use Rattle.std.specs.List.{position, position_or_len}
+use Rattle.std.proofs.lemmas.List.Recursion.{is_position_or_len}
 use Rattle.texts.specs.Records.{before, after, comma, feed, record_at, fields, in_first, fields_left}
 
 module _ (c : ℕ) where
-  before_cons : (b : ℕ) (bs : List ℕ) → before c (b ∷ bs) ≡ cond (eqb b c) [] (b ∷ before c bs)
+  -- how many bytes stand before the first that is c
+  before_length : (bs : List ℕ) → length (before c bs) ≡ position_or_len (λ b. eqb b c) bs
   unfolding before
-  before_cons b bs = refl
-
-  -- one step of a search for c
-  pub before_more : (bs : List ℕ) (i : ℕ) → i < length bs → (get_or bs i 0 ≡ c → ⊥) → length (before c (drop i bs)) ≡ suc (length (before c (drop (i + 1) bs)))
-  before_more bs i h ne =
-      at_drop_more (λ x. length (before c x)) bs i 0 h ∙ (ap length (before_cons (get_or bs i 0) (drop (i + 1) bs)) ∙ ap length (cond-false (eqb (get_or bs i 0) c) [] (get_or bs i 0 ∷ before c (drop (i + 1) bs)) (ne_eqb (get_or bs i 0) c ne)))
-
-  pub before_found : (bs : List ℕ) (i : ℕ) → i < length bs → get_or bs i 0 ≡ c → length (before c (drop i bs)) ≡ 0
-  before_found bs i h e =
-      at_drop_more (λ x. length (before c x)) bs i 0 h ∙ (ap length (before_cons (get_or bs i 0) (drop (i + 1) bs)) ∙ ap length (cond-true (eqb (get_or bs i 0) c) [] (get_or bs i 0 ∷ before c (drop (i + 1) bs)) (eq-eqb (get_or bs i 0) c e)))
+  before_length bs =
+      is_position_or_len (λ xs. length (before c xs)) (λ b. eqb b c) refl
+      (λ x xs. elim (eqb x c) as (λ t. length (cond t [] (x ∷ before c xs)) ≡ cond t 0 (1 + length (before c xs))) [ true ↦ refl | false ↦ omega arith ]) bs
 
   pub before_end : (bs : List ℕ) (i : ℕ) → length bs ≤ i → length (before c (drop i bs)) ≡ 0
   unfolding before
@@ -45,6 +41,19 @@ cut c (b ∷ bs) =
       }
     ]
 
+-- what a search for c finds
+pub before_found : (c : ℕ) (bs : List ℕ) (r : Option ℕ) → r ≡ position (λ b. eqb b c) bs → MatchOption r (length (before c bs) ≡ length bs) (λ n. (n ≡ length (before c bs)) × (n < length bs))
+before_found c bs r e =
+    let k = cut c bs in
+    let n = before_length c bs in
+    elim (cases_Bool (ltb (position_or_len (λ b. eqb b c) bs) (length bs))) [
+      | inl t ↦ let m = ltb-true (position_or_len (λ b. eqb b c) bs) (length bs) t in
+          rw (e ∙ cond-true _ (Some (position_or_len (λ b. eqb b c) bs)) None t) (sym n, omega arith)
+      | inr f ↦ let m = ltb-false (position_or_len (λ b. eqb b c) bs) (length bs) f in
+          let w = k.within in
+          rw (e ∙ cond-false _ (Some (position_or_len (λ b. eqb b c) bs)) None f) (omega arith)
+    ]
+
 -- the first field, and the fields of what is left
 pub fields_cut : (bs : List ℕ) → fields bs ≡ before comma bs ∷ fields_left (after comma bs)
 unfolding fields before after
@@ -64,17 +73,16 @@ pub record Parted (bs front : List ℕ) (rest : Option (List ℕ)) : Type 0 wher
 parted : (bs front : List ℕ) (rest : Option (List ℕ)) → front ≡ before comma bs → rest ≡ after comma bs → Parted bs front rest
 parted bs front rest e f = record { field = e; left = f; all = rw (e, f) (fields_cut bs) }
 
-pub parted_whole : (bs : List ℕ) (n : ℕ) → n ≡ length (before comma bs) → n ≡ length bs → Parted bs bs None
-parted_whole bs n e w =
+pub parted_whole : (bs : List ℕ) → length (before comma bs) ≡ length bs → Parted bs bs None
+parted_whole bs e =
     let k = cut comma bs in
-    parted bs bs None (sym (take_all (length (before comma bs)) bs (omega arith)) ∙ k.first) (sym (k.none (sym e ∙ w)))
+    parted bs bs None (sym (take_all (length (before comma bs)) bs (omega arith)) ∙ k.first) (sym (k.none e))
 
-pub parted_at : (bs : List ℕ) (n : ℕ) → n ≡ length (before comma bs) → (n ≡ length bs → ⊥) → Parted bs (take (n - 0) bs) (Some (take (length bs - (n + 1)) (drop (n + 1) bs)))
-parted_at bs n e ne =
+pub parted_at : (bs : List ℕ) (n : ℕ) → n ≡ length (before comma bs) → n < length bs → Parted bs (take n bs) (Some (take (length bs - (n + 1)) (drop (n + 1) bs)))
+parted_at bs n e h =
     let k = cut comma bs in
-    let same : n - 0 ≡ length (before comma bs) = omega arith in
     let l : length (before comma bs) < length bs = omega arith in
-    parted bs _ _ (ap (λ m. take m bs) same ∙ k.first) (ap Some (take_rest bs (n + 1) ∙ ap (λ m. drop (m + 1) bs) e) ∙ sym (k.some l))
+    parted bs _ _ (ap (λ m. take m bs) e ∙ k.first) (ap Some (take_rest bs (n + 1) ∙ ap (λ m. drop (m + 1) bs) e) ∙ sym (k.some l))
 
 -- how much is left of a record: its bytes and the comma before them
 abbrev pub left_over : Option (List ℕ) → ℕ
@@ -95,7 +103,17 @@ after_less c bs rest e =
 pub record_within : (bs : List ℕ) (place : ℕ) → place ≤ length bs → place + length (record_at bs place) ≤ length bs
 record_within bs place h = let k = cut feed (drop place bs) in omega (arith, length-drop place bs)
 
-pub record_part : (bs : List ℕ) (place stop : ℕ) → stop ≡ place + length (record_at bs place) → take (stop - place) (drop place bs) ≡ record_at bs place
-record_part bs place stop e =
-    let n : stop - place ≡ length (record_at bs place) = omega arith in
-    ap (λ m. take m (drop place bs)) n ∙ (cut feed (drop place bs)).first
+-- A record that ends with a line feed, where a search for one finds it in the rest of a text.
+pub record Fed (bs rest : List ℕ) (place n : ℕ) : Type 0 where
+  pub long : n ≡ length (record_at bs place)
+  pub part : take n rest ≡ record_at bs place
+  pub on : place + n < length bs
+
+pub fed : (bs rest : List ℕ) (place n : ℕ) → place ≤ length bs → rest ≡ drop place bs → (n ≡ length (before feed rest)) × (n < length rest) → Fed bs rest place n
+fed bs rest place n w e (l, h) =
+    let long : n ≡ length (record_at bs place) = l ∙ ap (λ x. length (before feed x)) e in
+    record {
+      long = long;
+      part = ap (λ x. take n x) e ∙ (ap (λ m. take m (drop place bs)) long ∙ (cut feed (drop place bs)).first);
+      on = omega (arith, ap length e, length-drop place bs);
+    }

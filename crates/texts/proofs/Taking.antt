@@ -1,5 +1,5 @@
 -- What one record of the netlist does.
-use Rattle.std.proofs.Common.{◌≡◌, ℕ, ◌+◌, ◌<◌, Bool, true, List, length, Some, None, Ok, Err, Result, sym, refl, ap, ◌∙◌, subst, arith, MatchResult}
+use Rattle.std.proofs.Common.{◌≡◌, ℕ, Bool, true, List, Some, None, Ok, Err, Result, sym, refl, ap, ◌∙◌, subst, arith}
 use Rattle.std.specs.Option.{option_map}
 use Rattle.circuits.specs.declared.kind.Kind.{Kind}
 use Rattle.circuits.specs.declared.name.Name.{Name}
@@ -15,10 +15,9 @@ use Rattle.texts.specs.declared.shape.Shaped.TheVariants as shaped
 use Rattle.texts.specs.Adding.{Reached, stem_named, pin_named, pins_named, GateAdded, output_cause, OutputAdded}
 use Rattle.texts.specs.Fields.{marked_word, has_mark}
 use Rattle.texts.specs.Groups.{next}
-use Rattle.texts.specs.Netlist.{shape_kind, Spells, shape_cause, Declared, Taken, shapeless, late, refused, added, NetlistStep}
-use Rattle.texts.specs.Records.{record_at, fields}
+use Rattle.texts.specs.Netlist.{shape_kind, Spells, shape_cause, Declared, Taken, shapeless, late, refused, added}
+use Rattle.texts.specs.Records.{fields}
 use Rattle.texts.specs.Shapes.{Shape, input, gate, output, shape_fields, well_shaped, shape_of, shaped_kind}
-use Rattle.texts.specs.Walks.{At, ended}
 use Rattle.texts.proofs.Words.{mark_of_word, name_of_word}
 
 abbrev a_pin : ℕ → Bool → Pin
@@ -87,14 +86,7 @@ pub onward_taken : (d : Parts) (g : Group) (bs : List ℕ) (g' : Group) (d' : Pa
 onward_taken d g bs g' d' r (added s q e w next' f h) = onward d g s g' d' r next' h
 
 -- A record that is refused leaves the parts.
-left : (d : Parts) (g : Group) (bs : List ℕ) (c : Cause) (d' : Parts) → Taken d g bs (Err c) d' → Taken d g bs (Err c) d
-left d g bs c d' (shapeless h) = shapeless h
-left d g bs c d' (late s e w f) = late s c w f
-left d g bs c d' (refused s q e w n f) = refused s q c w n f
-
--- a record that ends with a line feed
-pub taken_at :
-    (d d' : Parts) (g : Group) (bs part : List ℕ) (place : ℕ) (r : Result Group Cause) → part ≡ record_at bs place → place + length (record_at bs place) < length bs → Taken d g part r d' →
-    MatchResult r (λ g'. At NetlistStep bs place (g, d) (Ok (g', d'))) (λ c. At NetlistStep bs place (g, d) (Err c))
-taken_at d d' g bs part place (Ok g') e on h = ended (Ok (g', d')) on (subst (λ x. Taken d g x (Ok g') d') e h)
-taken_at d d' g bs part place (Err c) e on h = ended (Err c) on (left d g (record_at bs place) c d' (subst (λ x. Taken d g x (Err c) d') e h))
+pub taken_left : (d : Parts) (g : Group) (bs : List ℕ) (c : Cause) (d' : Parts) → Taken d g bs (Err c) d' → Taken d g bs (Err c) d
+taken_left d g bs c d' (shapeless h) = shapeless h
+taken_left d g bs c d' (late s e w f) = late s c w f
+taken_left d g bs c d' (refused s q e w n f) = refused s q c w n f

@@ -5,6 +5,7 @@ pub mod Groups
 pub mod Shapes
 pub mod Adding
 pub mod Walks
+pub mod Nexts
 pub mod Netlist
 pub mod Specification
 pub mod Reading

@@ -8,6 +8,7 @@ mod group;
 mod netlist;
 mod read;
 mod record;
+mod records;
 mod shape;
 mod specification;
 mod word;

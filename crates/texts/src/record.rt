@@ -1,26 +1,13 @@
-//! Where a record of a text ends, and the fields of a record.
-ghost use Rattle.std.specs.Prelude.{◌≡◌, ◌≤◌, [], ◌∷◌, length, MatchOption};
+//! Where a byte stands first, and the fields of a record.
+ghost use Rattle.std.specs.Prelude.{◌≡◌, ◌<◌, ◌≤◌, [], ◌∷◌, length, MatchOption};
 ghost use Rattle.std.specs.Option.{option_map};
-ghost use Rattle.texts.specs.Records.{before, after, comma, record_at, fields, fields_left};
+ghost use Rattle.texts.specs.Records.{before, after, comma, fields, fields_left};
 
-// How many bytes stand before the first that is `byte`: all where none is.
-fn length_before(bytes: &[u8], byte: u8) -> usize
-    ensures { result ≡ length (before byte bytes.now) }
+// Where the first such byte stands, if there is one.
+pub(crate) fn find(bytes: &[u8], byte: u8) -> Option<usize>
+    ensures { MatchOption result (length (before byte bytes.now) ≡ length bytes.now) (λ n. (n ≡ length (before byte bytes.now)) × (n < length bytes.now)) }
 {
-    for (i, b) in bytes.iter().enumerate() {
-        if *b == byte {
-            return i;
-        }
-    }
-    bytes.len()
-}
-
-// How many bytes the record that begins at `place` has, without its line feed.
-pub(crate) fn record_length(text: &[u8], place: usize) -> usize
-    requires { place ≤ length text.now }
-    ensures { result ≡ length (record_at text.now place) }
-{
-    length_before(&text[place..], b'\n')
+    bytes.iter().position(|b| *b == byte)
 }
 
 // The first field of a record, and what follows its comma, if there is one.
@@ -29,11 +16,10 @@ pub(crate) fn first_field(record: &[u8]) -> (&[u8], Option<&[u8]>)
     ensures rest { option_map (λ x. x.now) result.1 ≡ after comma «record».now }
     ensures all { fields «record».now ≡ result.0.now ∷ fields_left (option_map (λ x. x.now) result.1) }
 {
-    let end = length_before(record, b',');
-    if end == record.len() {
-        return (record, None);
+    match find(record, b',') {
+        Some(end) => (&record[..end], Some(&record[end + 1..])),
+        None => (record, None),
     }
-    (&record[0..end], Some(&record[end + 1..]))
 }
 
 // The only field of a record, or none where it has more.

@@ -1,56 +1,61 @@
-use Rattle.std.proofs.Common.{◌+◌, ◌<◌, length, refl, ap, subst, arith}
-use Rattle.circuits.specs.Drafts.{Parts, draft_parts}
+use Rattle.std.proofs.Common.{subst, ap, ◌∙◌, rules}
+use Rattle.std.proofs.lemmas.Result.{err_from_is_err_and, IfOk-at_ok}
+use Rattle.circuits.specs.Drafts.{draft_parts}
 use Rattle.texts.specs.declared.fault.Cause.TheVariants.{Limit}
 use Rattle.texts.specs.declared.fault.Text.TheVariants.{Netlist}
-use Rattle.texts.specs.declared.group.Group.{Group}
 use Rattle.texts.specs.declared.group.Group.TheVariants.{Inputs}
-use Rattle.texts.specs.Netlist.{NetlistStep, start, NetlistRefused, at_record, at_end}
-use Rattle.texts.proofs.Going.{going_none, fed, going_more, going_stopped, going_all, going_through, going_end}
-use Rattle.texts.proofs.Splits.{record_within}
+use Rattle.texts.specs.Netlist.{Taken, NetlistStep, start, NetlistRefused, at_record, at_end}
+use Rattle.texts.specs.Nexts.{spot_fault, NextRecord}
+use Rattle.texts.proofs.Going.{going_none, mapped_ok, mapped_err, going_more, going_stopped, going_unended, going_all, going_end}
+use Rattle.texts.proofs.Taking.{taken_left}
 use Rattle.texts.proofs.netlist.read_netlist.Goals as goal
-use Rattle.texts.proofs.netlist.read_netlist.Goals.{In-Ok}
 
-pub loop-place-init : goal.loop-place-init
-loop-place-init c = (
-  going_none NetlistStep c.args.netlist.now start (Inputs, draft_parts c.args.draft.now) (ap (λ d. (Inputs, d)) c.requires),
-  (ap (λ d. d.circuit.gates) c.requires, ap (λ d. d.circuit.outputs) c.requires, ap (λ d. d.rows) c.requires),
-)
+pub loop-spot-init : goal.loop-spot-init
+loop-spot-init c =
+    record {
+      same_text = c.new-records.ensures.text;
+      taken = going_none NetlistStep c.args.netlist.now start _ _ c.new-records.ensures.earlier (ap (λ d. (Inputs, d)) c.requires);
+      reached = (ap (λ d. d.circuit.gates) c.requires, ap (λ d. d.circuit.outputs) c.requires, ap (λ d. d.rows) c.requires);
+    }
 
-pub overflow_add-place : goal.overflow_add-place
-overflow_add-place c = let w = record_within c.args.netlist.now c.loop-place.place (omega arith) in omega arith
+pub loop-spot-preserved : goal.loop-spot-preserved
+loop-spot-preserved c =
+    let now = c.loop-spot.invariant in
+    let given = c.in-Some.ensures.steps in
+    let d = draft_parts c.loop-spot.draft in
+    let d' = draft_parts c.take_record-taken.new.draft in
+    let ok = mapped_ok _ c.take_record-taken.result c.map_err.result c.map_err.ensures.cases _ c.in_ok-group.was in
+    let taken = subst (λ r. Taken d c.loop-spot.group c.in-Some.«record».now r d') ok c.take_record-taken.ensures.exact in
+    record {
+      same_text = given.0 ∙ now.same_text;
+      taken = going_more NetlistStep c.args.netlist.now start c.loop-spot.records now.same_text c.next.new.self (c.in-Some.spot, c.in-Some.«record») given (c.loop-spot.group, d) (c.in_ok-group.group, d') now.taken taken;
+      reached = IfOk-at_ok _ ok c.take_record-taken.ensures.onward;
+    }
 
-pub returns-in-Err : goal.returns-in-Err
-returns-in-Err c =
-    at_record _ (going_stopped NetlistStep c.args.netlist.now start Netlist c.loop-place.earlier c.loop-place.place c.record_length-length.result (c.loop-place.group, draft_parts c.loop-place.draft) c.in-Err.cause (omega arith) c.record_length-length.ensures c.in-Err.ensures.taken c.loop-place.invariant.0)
+pub returns-in_err-group : goal.returns-in_err-group
+returns-in_err-group c =
+    let p = err_from_is_err_and c.from_residual.result c.from_residual.ensures.1 in
+    let now = c.loop-spot.invariant in
+    let given = c.in-Some.ensures.steps in
+    let d = draft_parts c.loop-spot.draft in
+    let d' = draft_parts c.take_record-taken.new.draft in
+    let (cause, err, told) = mapped_err _ c.take_record-taken.result c.map_err.result c.map_err.ensures.cases (spot_fault Netlist c.in-Some.spot) _ c.in_err-group.was (λ e k. search rules) in
+    let taken = subst (λ r. Taken d c.loop-spot.group c.in-Some.«record».now r d') err c.take_record-taken.ensures.exact in
+    rw (p.1, p.2)
+    (at_record _ (going_stopped NetlistStep c.args.netlist.now start c.loop-spot.records now.same_text c.next.new.self (c.in-Some.spot, c.in-Some.«record») given Netlist (c.loop-spot.group, d) cause _ told now.taken (taken_left d c.loop-spot.group c.in-Some.«record».now cause d' taken)))
 
--- the record that was taken has a line feed
-on : (c : In-Ok) → c.loop-place.place + c.record_length-length.result < length c.args.netlist.now
-on c = rw c.record_length-length.ensures (fed NetlistStep c.args.netlist.now start c.loop-place.place _ _ c.in-Ok.ensures.taken)
-
-pub overflow_add-place-in-loop-place : goal.overflow_add-place-in-loop-place
-overflow_add-place-in-loop-place c = omega (arith, on (goal.at.overflow_add-place-in-loop-place c).In-Ok)
-
-pub overflow_add-place-in-loop-place-2 : goal.overflow_add-place-in-loop-place-2
-overflow_add-place-in-loop-place-2 c = omega (arith, on (goal.at.overflow_add-place-in-loop-place-2 c).In-Ok)
-
-pub loop-place-preserved : goal.loop-place-preserved
-loop-place-preserved c = (
-  going_more NetlistStep c.args.netlist.now start c.loop-place.earlier c.loop-place.place _ c.record_length-length.result (c.loop-place.group, draft_parts c.loop-place.draft) _ (omega arith) c.record_length-length.ensures refl c.in-Ok.ensures.taken c.loop-place.invariant.0,
-  c.in-Ok.ensures.onward,
-)
+pub returns-then-rest-ne0 : goal.returns-then-rest-ne0
+returns-then-rest-ne0 c =
+    let now = c.loop-spot.invariant in
+    let rest = c.rest-rest.ensures in
+    let gone = subst (λ o. NextRecord c.loop-spot.records o c.next.new.self) c.in_default.is c.next.ensures.steps in
+    at_record _ (going_unended NetlistStep c.args.netlist.now start c.loop-spot.records now.same_text _ _ gone rest.number rest.place rest.length Netlist _ _ c.fault.ensures c.if-rest-ne0.true now.taken)
 
 pub returns-then-not-is_whole : goal.returns-then-not-is_whole
 returns-then-not-is_whole c =
-    let s : Group × Parts = (c.loop-place.group, draft_parts c.loop-place.draft) in
-    let end = going_end NetlistStep c.args.netlist.now start Netlist c.loop-place.earlier c.loop-place.place s Limit (omega arith) c.loop-place.invariant.0 in
-    let all = going_all NetlistStep c.args.netlist.now start c.loop-place.earlier c.loop-place.place s (omega arith) c.loop-place.invariant.0 in
-    subst (NetlistRefused c.args.netlist.now) end
-    (at_end c.loop-place.earlier c.loop-place.group (draft_parts c.loop-place.draft) c.loop-place.invariant.0.taken all c.if-not-is_whole.ensures)
-
-pub returns : goal.returns
-returns c =
-    record {
-      group = c.loop-place.group;
-      through = going_through NetlistStep c.args.netlist.now start c.loop-place.earlier c.loop-place.place (c.loop-place.group, draft_parts c.loop-place.draft) (omega arith) c.loop-place.invariant.0;
-      whole = c.if-not-is_whole.ensures;
-    }
+    let now = c.loop-spot.invariant in
+    let rest = c.rest-rest.ensures in
+    let gone = subst (λ o. NextRecord c.loop-spot.records o c.next.new.self) c.in_default.is c.next.ensures.steps in
+    let all = going_all NetlistStep c.args.netlist.now start c.loop-spot.records now.same_text _ _ gone rest.number rest.place rest.length c.if-rest-ne0.false in
+    let end = going_end NetlistStep c.args.netlist.now start c.loop-spot.records now.same_text _ _ gone rest.number rest.place rest.length Netlist Limit _ c.fault-then-not-is_whole.ensures in
+    subst (NetlistRefused c.args.netlist.now) end (at_end c.loop-spot.records.earlier c.loop-spot.group (draft_parts c.loop-spot.draft) now.taken all c.if-not-is_whole.ensures)

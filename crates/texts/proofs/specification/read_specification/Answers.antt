@@ -1,35 +1,36 @@
-use Rattle.std.proofs.Common.{◌+◌, ◌<◌, length, refl, arith}
+use Rattle.std.proofs.Common.{refl, subst, ◌∙◌, rules}
+use Rattle.std.proofs.lemmas.Result.{err_from_is_err_and, MatchResult-at_ok, MatchResult-at_err}
 use Rattle.circuits.specs.Drafts.{draft_parts}
 use Rattle.texts.specs.declared.fault.Text.TheVariants.{Specification}
+use Rattle.texts.specs.Nexts.{spot_fault, NextRecord}
 use Rattle.texts.specs.Specification.{RowStep}
-use Rattle.texts.proofs.Going.{going_none, fed, going_more, going_stopped, going_through}
-use Rattle.texts.proofs.Splits.{record_within}
+use Rattle.texts.proofs.Going.{going_none, mapped_ok, mapped_err, going_more, going_stopped, going_unended}
 use Rattle.texts.proofs.specification.read_specification.Goals as goal
-use Rattle.texts.proofs.specification.read_specification.Goals.{In-Ok}
 
-pub loop-place-init : goal.loop-place-init
-loop-place-init c = going_none RowStep c.args.specification.now (draft_parts c.args.draft.now) (draft_parts c.args.draft.now) refl
+pub loop-spot-init : goal.loop-spot-init
+loop-spot-init c = record { same_text = c.new-records.ensures.text; taken = going_none RowStep c.args.specification.now _ _ _ c.new-records.ensures.earlier refl }
 
-pub overflow_add-place : goal.overflow_add-place
-overflow_add-place c = let w = record_within c.args.specification.now c.loop-place.place (omega arith) in omega arith
+pub loop-spot-preserved : goal.loop-spot-preserved
+loop-spot-preserved c =
+    let now = c.loop-spot.invariant in
+    let given = c.in-Some.ensures.steps in
+    let ok = mapped_ok _ c.take_row.result c.map_err.result c.map_err.ensures.cases _ c.in_ok-map_err.was in
+    record {
+      same_text = given.0 ∙ now.same_text;
+      taken = going_more RowStep c.args.specification.now _ c.loop-spot.records now.same_text c.next.new.self (c.in-Some.spot, c.in-Some.«record») given _ _ now.taken (MatchResult-at_ok _ _ _ ok c.take_row.ensures);
+    }
 
-pub returns-in-Err : goal.returns-in-Err
-returns-in-Err c =
-    going_stopped RowStep c.args.specification.now (draft_parts c.args.draft.now) Specification c.loop-place.earlier c.loop-place.place c.record_length-length.result (draft_parts c.loop-place.draft) c.in-Err.cause (omega arith) c.record_length-length.ensures c.in-Err.ensures c.loop-place.invariant
+pub returns-in_err-map_err : goal.returns-in_err-map_err
+returns-in_err-map_err c =
+    let p = err_from_is_err_and c.from_residual.result c.from_residual.ensures.1 in
+    let now = c.loop-spot.invariant in
+    let given = c.in-Some.ensures.steps in
+    let (cause, err, told) = mapped_err _ c.take_row.result c.map_err.result c.map_err.ensures.cases (spot_fault Specification c.in-Some.spot) _ c.in_err-map_err.was (λ d k. search rules) in
+    rw (p.1, p.2) (going_stopped RowStep c.args.specification.now _ c.loop-spot.records now.same_text c.next.new.self (c.in-Some.spot, c.in-Some.«record») given Specification (draft_parts c.loop-spot.draft) cause c.in_err-map_err.field-0.0 told now.taken (MatchResult-at_err _ _ cause err c.take_row.ensures))
 
--- the record that was taken has a line feed
-on : (c : In-Ok) → c.loop-place.place + c.record_length-length.result < length c.args.specification.now
-on c = rw c.record_length-length.ensures (fed RowStep c.args.specification.now (draft_parts c.args.draft.now) c.loop-place.place _ _ c.in-Ok.ensures)
-
-pub overflow_add-place-in-loop-place : goal.overflow_add-place-in-loop-place
-overflow_add-place-in-loop-place c = omega (arith, on (goal.at.overflow_add-place-in-loop-place c).In-Ok)
-
-pub overflow_add-place-in-loop-place-2 : goal.overflow_add-place-in-loop-place-2
-overflow_add-place-in-loop-place-2 c = omega (arith, on (goal.at.overflow_add-place-in-loop-place-2 c).In-Ok)
-
-pub loop-place-preserved : goal.loop-place-preserved
-loop-place-preserved c =
-    going_more RowStep c.args.specification.now (draft_parts c.args.draft.now) c.loop-place.earlier c.loop-place.place _ c.record_length-length.result (draft_parts c.loop-place.draft) _ (omega arith) c.record_length-length.ensures refl c.in-Ok.ensures c.loop-place.invariant
-
-pub returns : goal.returns
-returns c = going_through RowStep c.args.specification.now (draft_parts c.args.draft.now) c.loop-place.earlier c.loop-place.place (draft_parts c.loop-place.draft) (omega arith) c.loop-place.invariant
+pub returns-then-rest-ne0 : goal.returns-then-rest-ne0
+returns-then-rest-ne0 c =
+    let now = c.loop-spot.invariant in
+    let rest = c.rest-rest.ensures in
+    let gone = subst (λ o. NextRecord c.loop-spot.records o c.next.new.self) c.in_default.is c.next.ensures.steps in
+    going_unended RowStep c.args.specification.now _ c.loop-spot.records now.same_text _ _ gone rest.number rest.place rest.length Specification _ _ c.fault.ensures c.if-rest-ne0.true now.taken
