@@ -1,10 +1,7 @@
 //! What a name is made from, its bytes, and when two names are the same.
 ghost use Rattle.std.specs.Prelude.{◌≡◌, true, false, MatchOption};
-ghost use Rattle.std.specs.Str.{bytes_eq};
 ghost use Rattle.circuits.specs.Circuits.{name_bytes};
 ghost use Rattle.circuits.specs.Names.{letter, is_name};
-ghost use Rattle.std.specs.Cmp.Rules.{comparing};
-ghost use Rattle.std.proofs.Common.{rules, arith};
 
 use crate::name::Name;
 use crate::short::Short;
@@ -43,15 +40,5 @@ impl Name {
         ensures { result.now ≡ name_bytes self.now }
     {
         self.bytes.as_slice()
-    }
-}
-
-impl PartialEq for Name {
-    ghost eq = { λ x y. bytes_eq (name_bytes x) (name_bytes y) };
-
-    ghost laws = { first_of (Prim.search (comparing, rules), Prim.grind (arith, Self.row.coded.inj)) };
-
-    fn eq(&self, other: &Name) -> bool {
-        self.as_bytes() == other.as_bytes()
     }
 }

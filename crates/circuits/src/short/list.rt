@@ -1,5 +1,7 @@
 //! The entries of a short list, one after the other.
 ghost use Rattle.std.specs.Prelude.{◌≡◌, ⊤, ◌<◌, [], ◌∷◌, ◌++◌, length, MatchResult};
+ghost use Rattle.std.specs.Cmp.{on_per, on_equiv};
+ghost use Rattle.std.specs.Cmp.Lexicographic.{pointwise, lists_per, lists_equiv};
 ghost use Rattle.circuits.specs.Shorts.{entries};
 
 use crate::short::{Blank, Full, Short};
@@ -14,6 +16,21 @@ impl<T: Blank, const N: usize> Clone for Short<T, N> {
     fn clone(&self) -> Result<Self, AllocError> {
         Ok(*self)
     }
+}
+
+// A derive would compare the lengths and the whole tables: two short lists are the same where their entries are.
+impl<T: Blank + PartialEq, const N: usize> PartialEq for Short<T, N> {
+    ghost eq = { λ x y. pointwise T.eq (entries x) (entries y) };
+
+    ghost laws = { on_per entries (lists_per T.PartialEq.laws) };
+
+    fn eq(&self, other: &Short<T, N>) -> bool {
+        self.as_slice() == other.as_slice()
+    }
+}
+
+impl<T: Blank + Eq, const N: usize> Eq for Short<T, N> {
+    ghost laws = { on_equiv entries (lists_equiv T.Eq.laws) };
 }
 
 impl<T: Blank, const N: usize> Short<T, N> {
