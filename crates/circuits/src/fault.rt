@@ -1,7 +1,7 @@
 //! Why a part is refused.
 
 /// The rule that a part of a design would break.
-#[derive(Clone, Copy)]
+#[derive(Clone, Copy, Debug, PartialEq, Eq)]
 pub enum PartFault {
     /// A part of a later group stands already.
     Order,

@@ -3,7 +3,7 @@ ghost use Rattle.std.specs.Prelude.{◌≡◌, Bool, true, List, length};
 ghost use Rattle.circuits.specs.Kinds.{fits, gate_bit, ones};
 
 /// What a gate makes of the bits that its pins receive.
-#[derive(Clone, Copy)]
+#[derive(Clone, Copy, Debug, PartialEq, Eq)]
 pub enum Kind {
     And,
     Nand,

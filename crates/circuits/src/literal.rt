@@ -4,7 +4,7 @@ ghost use Rattle.circuits.specs.Patterns.{is_dash};
 use crate::short::Blank;
 
 /// What a pattern asks of one input: `0`, `1`, or `-` for either.
-#[derive(Clone, Copy)]
+#[derive(Clone, Copy, Debug, PartialEq, Eq)]
 pub enum Literal {
     Zero,
     One,

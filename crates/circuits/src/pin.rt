@@ -4,7 +4,7 @@ ghost use Rattle.circuits.specs.Pins.{unused};
 use crate::short::Blank;
 
 /// A reader of one stem, through an inversion where it is marked.
-#[derive(Clone, Copy)]
+#[derive(Clone, Copy, Debug, PartialEq, Eq)]
 pub struct Pin {
     /// The number of the stem: inputs first, then gates.
     pub stem: usize,
