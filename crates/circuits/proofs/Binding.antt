@@ -1,10 +1,12 @@
 -- What outputs meet, and counting those that miss their rows.
-use Rattle.std.proofs.Common.{◌≡◌, ℕ, zero, suc, ◌+◌, ◌<◌, ◌≤◌, Bool, true, false, cond, not, ◌⊎◌, List, [], ◌∷◌, length, get_or, drop, Some, None, Option, unwrap_or, sym, refl, ap, ◌∙◌, inl, inr, ⊎_elim, add-one, arith}
+use Rattle.std.proofs.Common.{take, ◌≡◌, ℕ, zero, suc, ◌+◌, ◌<◌, ◌≤◌, Bool, true, false, cond, not, ◌⊎◌, List, [], ◌∷◌, length, get_or, drop, Some, None, Option, unwrap_or, sym, refl, ap, ◌∙◌, inl, inr, ⊎_elim, add-one, arith}
 use Rattle.std.specs.Option.{option_map}
-use Rattle.std.specs.List.{slice_get}
-use Rattle.std.proofs.lemmas.List.{drop_more, drop_all}
+use Rattle.std.specs.List.{slice_get, filter, range_with_len}
+use Rattle.std.proofs.lemmas.List.Filters.{length-filter_more}
+use Rattle.std.proofs.lemmas.List.FromFn.{length-range_with_len, get_or-range_with_len}
+use Rattle.std.proofs.lemmas.List.{take_all, drop_more, drop_all}
 use Rattle.std.proofs.lemmas.Option.{slice_get-get_or}
-use Rattle.std.proofs.lemmas.Bool.{and_left, and_right, and_from, both_ways, cases_Bool, cases_order}
+use Rattle.std.proofs.lemmas.Bool.{and_parts, and_from, cases_order}
 use Rattle.circuits.specs.declared.gate.Output.{Output}
 use Rattle.circuits.specs.declared.pin.Pin.{Pin}
 use Rattle.circuits.specs.declared.row.SpecRow.{SpecRow}
@@ -14,33 +16,18 @@ use Rattle.circuits.specs.Specification.{bound, obeys, each_below, meets, misses
 cases_last : (k n : ℕ) → k < suc n → (k ≡ n) ⊎ (k < n)
 cases_last k n h = ⊎_elim inl (⊎_elim inr (λ g. let z : ⊥ = omega arith in absurd z)) (cases_order k n)
 
--- a test that fails below n
-pub each_below_not : (n k : ℕ) (t : ℕ → Bool) → k < n → t k ≡ false → each_below n t ≡ false
-unfolding each_below
-each_below_not zero k t h e = let z : ⊥ = omega arith in absurd z
-each_below_not (suc n) k t h e =
-    ⊎_elim (λ same. and_right (each_below n t) (t n) (rw (← same) e)) (λ less. and_left (each_below n t) (t n) (each_below_not n k t less e)) (cases_last k n h)
-
-pub each_below_more : (k : ℕ) (t : ℕ → Bool) → each_below k t ≡ true → t k ≡ true → each_below (k + 1) t ≡ true
-unfolding each_below
-each_below_more k t h e = rw (add-one k) (and_from (each_below k t) (t k) h e)
-
 -- a test that holds of each number below n, and back
 pub each_below_at : (n k : ℕ) (t : ℕ → Bool) → each_below n t ≡ true → k < n → t k ≡ true
-each_below_at n k t h l = ⊎_elim (λ e. e) (λ e. let z : ⊥ = both_ways (each_below n t) (each_below_not n k t l e) h in absurd z) (cases_Bool (t k))
+unfolding each_below
+each_below_at zero k t h l = let z : ⊥ = omega arith in absurd z
+each_below_at (suc n) k t h l =
+    let p = and_parts (each_below n t) (t n) h in
+    ⊎_elim (λ same. rw same p.1) (λ less. each_below_at n k t p.0 less) (cases_last k n l)
 
 pub each_below_from : (n : ℕ) (t : ℕ → Bool) → ((k : ℕ) → k < n → t k ≡ true) → each_below n t ≡ true
 unfolding each_below
 each_below_from zero t h = refl
 each_below_from (suc n) t h = and_from (each_below n t) (t n) (each_below_from n t (λ k l. h k (omega arith))) (h n (omega arith))
-
--- What has been counted of the outputs that miss their rows, when the first i have been looked at.
-pub record Missed (c : Net) (rows : List SpecRow) (i n : ℕ) : Type 0 where
-  pub few : n ≤ i
-  pub sum : n + misses_from c rows i (drop i c.outputs) ≡ misses c rows
-
-pub missed_none : (c : Net) (rows : List SpecRow) → Missed c rows 0 0
-missed_none c rows = record { few = omega arith; sum = omega arith }
 
 -- the i-th of a list, since there is one
 element : {X : Type 0} (xs : List X) (i : ℕ) → i < length xs → (x : X) × (drop i xs ≡ x ∷ drop (i + 1) xs) × (slice_get xs i ≡ Some x)
@@ -52,26 +39,38 @@ swap_cond : (t : Bool) (x y : ℕ) → cond (not t) x y ≡ cond t y x
 swap_cond true x y = refl
 swap_cond false x y = refl
 
-pub missed_more :
-    (c : Net) (rows : List SpecRow) (i n m : ℕ) (b : Bool) → i < length c.outputs →
-    b ≡ unwrap_or (option_map (λ x. not (meets c rows i x)) (slice_get c.outputs i)) false → m ≡ n + cond b 1 0 → Missed c rows i n → Missed c rows (i + 1) m
+-- whether there is an output of this number and it misses its rows
+abbrev pub missed : Net → List SpecRow → ℕ → Bool
+missed c rows k = unwrap_or (option_map (λ x. not (meets c rows k x)) (slice_get c.outputs k)) false
+
+-- how many of the first i numbers are of outputs that miss their rows, and what is left
+counted : (c : Net) (rows : List SpecRow) (i : ℕ) → i ≤ length c.outputs →
+    length (filter (missed c rows) (take i (range_with_len 0 (length c.outputs)))) + misses_from c rows i (drop i c.outputs) ≡ misses c rows
 unfolding misses_from
-missed_more c rows i n m b h e sum p =
-    let x = element c.outputs i h in
+counted c rows zero h = omega arith
+counted c rows (suc i) h =
+    let n = length c.outputs in
+    let x = element c.outputs i (omega arith) in
     let met = meets c rows i x.0 in
-    let is : b ≡ not met = rw x.2 at e in
+    let is : missed c rows i ≡ not met = rw x.2 refl in
     let left : misses_from c rows i (drop i c.outputs) ≡ cond met 0 1 + misses_from c rows (i + 1) (drop (i + 1) c.outputs) =
     ap (λ xs. misses_from c rows i xs) x.1 ∙ ap (λ k. cond met 0 1 + misses_from c rows k (drop (i + 1) c.outputs)) (sym (add-one i))
     in
-    let same : ◌≡◌ {A = ℕ} (cond b 1 0) (cond met 0 1) = ap {A = Bool} {B = ℕ} (λ t. cond t 1 0) is ∙ swap_cond met 1 0 in
-    let one : cond met 0 1 ≤ 1 = elim met as (λ t. cond t 0 1 ≤ 1) [ true ↦ omega arith | false ↦ omega arith ] in
-    record { few = omega (arith, p.few); sum = omega (arith, p.sum) }
+    let same : ◌≡◌ {A = ℕ} (cond (missed c rows i) 1 0) (cond met 0 1) = ap {A = Bool} {B = ℕ} (λ t. cond t 1 0) is ∙ swap_cond met 1 0 in
+    let at : get_or (range_with_len 0 n) i 0 ≡ i = get_or-range_with_len 0 n i 0 (omega arith) ∙ omega arith in
+    let more : length (filter (missed c rows) (take (i + 1) (range_with_len 0 n))) ≡ length (filter (missed c rows) (take i (range_with_len 0 n))) + cond (missed c rows i) 1 0 =
+    length-filter_more (missed c rows) (range_with_len 0 n) i 0 (omega (arith, length-range_with_len 0 n)) ∙ ap (λ k. length (filter (missed c rows) (take i (range_with_len 0 n))) + cond (missed c rows k) 1 0) at
+    in
+    rw (← add-one i) (omega (arith, counted c rows i (omega arith)))
 
-pub missed_all : (c : Net) (rows : List SpecRow) (i n : ℕ) → length c.outputs ≤ i → Missed c rows i n → n ≡ misses c rows
+pub misses_counted : (c : Net) (rows : List SpecRow) → misses c rows ≡ length (filter (missed c rows) (range_with_len 0 (length c.outputs)))
 unfolding misses_from
-missed_all c rows i n h p =
-    let none : misses_from c rows i (drop i c.outputs) ≡ 0 = ap (λ xs. misses_from c rows i xs) (drop_all i c.outputs h) in
-    omega (arith, p.sum)
+misses_counted c rows =
+    let n = length c.outputs in
+    let all : take n (range_with_len 0 n) ≡ range_with_len 0 n = take_all n (range_with_len 0 n) (omega (arith, length-range_with_len 0 n)) in
+    let none : misses_from c rows n (drop n c.outputs) ≡ 0 = ap (λ xs. misses_from c rows n xs) (drop_all n c.outputs (omega arith)) in
+    let e = counted c rows n (omega arith) in
+    sym (rw (none, all) at e) ∙ omega arith
 
 -- what an output meets, by the pin that it is read through
 pub meets_by_pin :

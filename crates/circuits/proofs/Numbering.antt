@@ -1,9 +1,9 @@
 -- The numbers of lines and their places, each from the other.
-use Rattle.std.proofs.Common.{◌≡◌, ℕ, zero, suc, ◌+◌, ◌-◌, ◌*◌, ◌<◌, ◌≤◌, Bool, true, false, ltb, List, [], ◌∷◌, ◌++◌, length, get_or, take, drop, is_some, Some, None, Option, sym, refl, ap, ◌∙◌, ⊎_elim, zero-add, add-one, arith}
+use Rattle.std.proofs.Common.{◌≡◌, ℕ, zero, suc, ◌+◌, ◌-◌, ◌*◌, ◌<◌, ◌≤◌, Bool, true, false, ltb, List, [], ◌∷◌, length, get_or, take, drop, is_some, Some, None, Option, sym, refl, ap, ◌∙◌, ⊎_elim, zero-add, add-one, arith}
 use Rattle.std.specs.Option.{option_map}
 use Rattle.std.specs.List.{slice_get}
-use Rattle.std.proofs.lemmas.List.{drop_more, take_more, drop_all}
-use Rattle.std.proofs.lemmas.Option.{slice_get-get_or, slice_get_past}
+use Rattle.std.proofs.lemmas.List.{drop_more, drop_all}
+use Rattle.std.proofs.lemmas.Option.{slice_get-get_or}
 use Rattle.std.proofs.lemmas.Bool.{ltb-true, lt-ltb, le-ltb, cases_lt, false≢true}
 use Rattle.std.proofs.lemmas.Bool.Decides.{nat_tests}
 use Rattle.circuits.specs.declared.gate.Gate.{Gate}
@@ -162,37 +162,19 @@ passed_all c l k left h p =
     let s : pin_place k (drop k c.gates) left ≡ None = ap (λ gs. pin_place k gs left) (drop_all k c.gates h) in
     rw (le-ltb l (stem_count c) p.past) (sym p.same ∙ s)
 
-pin_count_push : (xs : List Gate) (x : Gate) → pin_count (xs ++ x ∷ []) ≡ pin_count xs + length (pins_of x)
-unfolding pin_count
-pin_count_push [] x = omega arith
-pin_count_push (y ∷ xs) x = omega (arith, pin_count_push xs x)
-
--- how many pins the first gates have, with one gate more
-pub pin_count_more : (gs : List Gate) (k : ℕ) (g : Gate) → k < length gs → g ≡ get_or gs k g → pin_count (take (k + 1) gs) ≡ pin_count (take k gs) + length (pins_of g)
-pin_count_more gs k g h is = rw (take_more gs k g h, ← is) (pin_count_push (take k gs) g)
-
 pub pin_count_le : (gs : List Gate) → pin_count gs ≤ 4 * length gs
 unfolding pin_count
 pin_count_le [] = omega arith
 pin_count_le (g ∷ gs) = omega (arith, few g.pins, pin_count_le gs)
 
--- whether a gate has a pin at a position
-pub pin_at_test : (gs : List Gate) (k i : ℕ) (g : Gate) → k < length gs → g ≡ get_or gs k g → is_some (pin_at gs k i) ≡ ltb i (length (pins_of g))
-pin_at_test gs k i g h is = rw (slice_get-get_or gs k g h, ← is) (nth_test (pins_of g) i)
-
-pub pin_at_past : (gs : List Gate) (k i : ℕ) → length gs ≤ k → is_some (pin_at gs k i) ≡ false
-pin_at_past gs k i h = rw (slice_get_past gs k h)
-
--- the pin at a position of a gate
-pub pin_at_is :
-    (gs : List Gate) (k i : ℕ) (g : Gate) (d : Pin) → k < length gs → g ≡ get_or gs k g → i < length (pins_of g) → pin_at gs k i ≡ Some (get_or (pins_of g) i d)
-pin_at_is gs k i g d h is small = rw (slice_get-get_or gs k g h, ← is) (slice_get-get_or (pins_of g) i d small)
-
-pub no_gate : (gs : List Gate) (k i : ℕ) → length gs ≤ k → pin_at gs k i ≡ None
-no_gate gs k i h = rw (slice_get_past gs k h)
-
-pub no_pin : (gs : List Gate) (k i : ℕ) (g : Gate) → k < length gs → g ≡ get_or gs k g → length (pins_of g) ≤ i → pin_at gs k i ≡ None
-no_pin gs k i g h is big = rw (slice_get-get_or gs k g h, ← is) (slice_get_past (pins_of g) i big)
+-- a gate has at most four pins
+pub pin_small : (gs : List Gate) (k i : ℕ) (p : Pin) → pin_at gs k i ≡ Some p → i < 4
+pin_small [] k i p e = let z : ◌≡◌ {A = ℕ} 0 1 = cc in absurd (omega arith)
+pin_small (g ∷ gs) zero i p e =
+    let n = length (pins_of g) in
+    let small : i < n = ltb-true i n (sym (nth_test (pins_of g) i) ∙ ap is_some e) in
+    omega (arith, few g.pins)
+pin_small (g ∷ gs) (suc k) i p e = pin_small gs k i p e
 
 -- a stem's place is one of the stems
 pub stem_stands : (c : Net) (l s : ℕ) → place_of c l ≡ Some (Stem s) → s < stem_count c

@@ -1,13 +1,17 @@
 -- The recursions over lists, in the library's words.
-use Rattle.std.proofs.Common.{◌≡◌, ℕ, ◌<◌, get_or, Bool, reverse, suc, ◌+◌, true, false, cond, not, ◌&&◌, ltb, List, [], ◌∷◌, ◌++◌, map, length, Some, None, sym, refl, ap, ◌∙◌, arith}
+use Rattle.std.proofs.Common.{◌≡◌, ℕ, zero, take, ◌≤◌, add-one, ◌<◌, get_or, Bool, reverse, suc, ◌+◌, true, false, cond, not, ◌&&◌, ltb, List, [], ◌∷◌, ◌++◌, map, length, Some, None, sym, refl, ap, ◌∙◌, arith}
 use Rattle.std.specs.Prelude.{filter, find, zip, position as first_place}
-use Rattle.std.specs.List.{enumerate_from, list_all, position_or_len}
+use Rattle.std.specs.List.{sum_by, range_with_len, enumerate_from, list_all, position_or_len}
 use Rattle.std.specs.Str.{bytes_eq}
 use Rattle.std.proofs.lemmas.Bool.{lt-ltb}
 use Rattle.std.proofs.lemmas.Bool.Decides.{nat_tests}
-use Rattle.std.proofs.lemmas.List.{map-append, length-reverse, reverse-append}
-use Rattle.std.proofs.lemmas.List.FromFn.{length-enumerate_from, get_or-enumerate_from}
-use Rattle.std.proofs.lemmas.List.Folds.{list_all-append}
+use Rattle.std.proofs.lemmas.List.{take_all, map-append, length-reverse, reverse-append}
+use Rattle.std.proofs.lemmas.List.FromFn.{length-range_with_len, get_or-range_with_len, length-enumerate_from, get_or-enumerate_from}
+use Rattle.std.proofs.lemmas.List.Folds.{list_all-append, list_all_more}
+use Rattle.std.proofs.lemmas.List.Recursion.{is_sum_by}
+use Rattle.circuits.specs.Lines.{pin_count}
+use Rattle.circuits.specs.Circuits.{pins_of}
+use Rattle.circuits.specs.Specification.{each_below}
 use Rattle.circuits.specs.declared.pin.Pin.{Pin}
 use Rattle.circuits.specs.Kinds.{ones}
 use Rattle.std.proofs.lemmas.Simd.{map-map}
@@ -93,3 +97,19 @@ ones_received g i stems (p ∷ ps) =
     let later = ones_received g (suc i) stems ps in
     elim (through p stems) as (λ b. cond b 1 0 + ones (received nothing g (suc i) stems ps) ≡ length (cond b (p ∷ filter (λ (p : Pin). through p stems) ps) (filter (λ (p : Pin). through p stems) ps)))
     [ true ↦ omega arith | false ↦ omega arith ]
+
+pub pin_count_sum : (gs : List Gate) → pin_count gs ≡ sum_by (λ g. length (pins_of g)) gs
+unfolding pin_count
+pin_count_sum gs = is_sum_by pin_count (λ g. length (pins_of g)) refl (λ _ _. refl) gs
+
+-- a test of the first of the numbers below n, and of each
+each_of_first : (n : ℕ) (t : ℕ → Bool) (i : ℕ) → i ≤ n → each_below i t ≡ list_all t (take i (range_with_len 0 n))
+unfolding each_below
+each_of_first n t zero h = refl
+each_of_first n t (suc i) h =
+    let at : get_or (range_with_len 0 n) i 0 ≡ i = get_or-range_with_len 0 n i 0 (omega arith) ∙ omega arith in
+    let more = list_all_more t (range_with_len 0 n) i 0 (omega (arith, length-range_with_len 0 n)) in
+    rw (← add-one i, more, at) (ap (λ b. b && t i) (each_of_first n t i (omega arith)))
+
+pub each_below_all : (n : ℕ) (t : ℕ → Bool) → each_below n t ≡ list_all t (range_with_len 0 n)
+each_below_all n t = each_of_first n t n (omega arith) ∙ ap (list_all t) (take_all n (range_with_len 0 n) (omega (arith, length-range_with_len 0 n)))

@@ -9,7 +9,11 @@ use Rattle.circuits.specs.declared.pin.Pin.{Pin}
 use Rattle.circuits.specs.Kinds.{fits, gate_bit}
 use Rattle.circuits.specs.Circuits.{Net, pins_of, Put, nothing, gate_stem, bit, through, received, input_stems, worked_out, stems_with, carried}
 use Rattle.circuits.specs.Legality.{pins_read, gate_legal, gates_legal, outputs_legal}
-use Rattle.circuits.specs.Lines.{stem_count}
+use Rattle.circuits.specs.Lines.{stem_count, pin_at}
+use Rattle.std.specs.List.{slice_get}
+use Rattle.std.specs.Option.{IfSome, option_map}
+use Rattle.std.proofs.lemmas.Option.{IfSome_then}
+
 
 -- what each pin gets
 pub received_each : (g i : ℕ) (stems : List Bool) (ps : List Pin) → received nothing g i stems ps ≡ map (λ (p : Pin). through p stems) ps
@@ -101,19 +105,27 @@ unfolding worked_out
 gates_all c a bits k e p = ap (λ gs. worked_out nothing k bits gs) (sym (drop_all k c.gates e)) ∙ p.done
 
 -- an output reads a stem
-pub output_reads : (s : ℕ) (xs : List Output) (k : ℕ) (x : Output) → outputs_legal s xs ≡ true → k < length xs → x ≡ get_or xs k x → x.pin.stem < s
+pub output_reads : (s : ℕ) (xs : List Output) (k : ℕ) → outputs_legal s xs ≡ true → IfSome (option_map (λ (x : Output). x.pin) (slice_get xs k)) (λ p. p.stem < s)
 unfolding outputs_legal
-output_reads s [] k x h l is = let z : ⊥ = omega arith in absurd z
-output_reads s (y ∷ ys) zero x h l is = rw is (ltb-true y.pin.stem s (and_parts (ltb y.pin.stem s) (outputs_legal s ys) h).0)
-output_reads s (y ∷ ys) (suc k) x h l is = output_reads s ys k x (and_parts (ltb y.pin.stem s) (outputs_legal s ys) h).1 (omega arith) is
+output_reads s [] k h = tt
+output_reads s (y ∷ ys) zero h = ltb-true y.pin.stem s (and_parts (ltb y.pin.stem s) (outputs_legal s ys) h).0
+output_reads s (y ∷ ys) (suc k) h = output_reads s ys k (and_parts (ltb y.pin.stem s) (outputs_legal s ys) h).1
+
+some_pin_reads : (s : ℕ) (ps : List Pin) (i : ℕ) → pins_read s ps ≡ true → IfSome (slice_get ps i) (λ p. p.stem < s)
+unfolding pins_read
+some_pin_reads s [] i h = tt
+some_pin_reads s (p ∷ ps) zero h = ltb-true p.stem s (and_parts (ltb p.stem s) (pins_read s ps) h).0
+some_pin_reads s (p ∷ ps) (suc i) h = some_pin_reads s ps i (and_parts (ltb p.stem s) (pins_read s ps) h).1
 
 -- a pin of a gate reads a stem
-pub gate_reads :
-    (n : ℕ) (gs : List Gate) (k i : ℕ) (g : Gate) (d : Pin) → gates_legal n gs ≡ true → k < length gs → g ≡ get_or gs k g → i < length (pins_of g) → (get_or (pins_of g) i d).stem < n + length gs
-gate_reads n gs k i g d h l is small =
-    let legal : gate_legal (n + k) g ≡ true = rw is (gate_at n gs k g h l) in
-    let p = pin_reads (n + k) (pins_of g) i d (and_parts (fits g.kind (length (pins_of g))) (pins_read (n + k) (pins_of g)) legal).1 small in
-    omega arith
+pub pin_at_reads : (n : ℕ) (gs : List Gate) (k i : ℕ) → gates_legal n gs ≡ true → IfSome (pin_at gs k i) (λ p. p.stem < n + length gs)
+unfolding gates_legal
+pin_at_reads n [] k i h = tt
+pin_at_reads n (g ∷ gs) zero i h =
+    let legal = (and_parts (gate_legal n g) (gates_legal (suc n) gs) h).0 in
+    IfSome_then (slice_get (pins_of g) i) (some_pin_reads n (pins_of g) i (and_parts (fits g.kind (length (pins_of g))) (pins_read n (pins_of g)) legal).1) (λ p e. omega arith)
+pin_at_reads n (g ∷ gs) (suc k) i h =
+    IfSome_then (pin_at gs k i) (pin_at_reads (suc n) gs k i (and_parts (gate_legal n g) (gates_legal (suc n) gs) h).1) (λ p e. omega arith)
 
 pub input_stems_length : (u : Put) (i : ℕ) (xs : List Name) (a : ℕ) → length (input_stems u i xs a) ≡ length xs
 unfolding input_stems

@@ -10,7 +10,6 @@ use crate::name::Name;
 impl Circuit {
     // How many stems there are.
     pub(crate) fn stems(&self) -> usize
-        requires { stem_count (net self.now) < 2 ^ 64 }
         ensures { result ≡ stem_count (net self.now) }
     {
         self.inputs.len() + self.gates.len()
@@ -18,7 +17,6 @@ impl Circuit {
 
     // The number of the stem of this name, if there is one.
     pub(crate) fn find_stem(&self, name: &Name) -> Option<usize>
-        requires { stem_count (net self.now) < 2 ^ 64 }
         ensures { result ≡ position 0 (name_bytes name.now) (stem_names (net self.now)) }
     {
         self.inputs

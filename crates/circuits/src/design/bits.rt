@@ -31,18 +31,18 @@ impl Design {
     }
 
     // The pin at a position of a gate, if there is one.
-    fn pin(&self, gate: usize, position: usize) -> Option<Pin>
+    pub(super) fn pin(&self, gate: usize, position: usize) -> Option<Pin>
         ensures value { result ≡ pin_at (design_parts self.now).circuit.gates gate position }
         ensures reads { IfSome result (λ p. p.stem < stem_count (design_parts self.now).circuit) }
     {
-        if gate >= self.draft.circuit.gates.len() {
-            return None;
-        }
-        let pins = self.draft.circuit.gates[gate].pins.as_slice();
-        if position >= pins.len() {
-            return None;
-        }
-        Some(pins[position])
+        self.draft
+            .circuit
+            .gates
+            .get(gate)?
+            .pins
+            .as_slice()
+            .get(position)
+            .copied()
     }
 
     // The pin of an output, if there is one.
@@ -50,10 +50,11 @@ impl Design {
         ensures value { result ≡ option_map (λ (x : Output). x.pin) (slice_get (design_parts self.now).circuit.outputs output) }
         ensures reads { IfSome result (λ p. p.stem < stem_count (design_parts self.now).circuit) }
     {
-        if output >= self.draft.circuit.outputs.len() {
-            return None;
-        }
-        Some(self.draft.circuit.outputs[output].pin)
+        self.draft
+            .circuit
+            .outputs
+            .get(output)
+            .map(|output| output.pin)
     }
 
     /// The bit that a line carries at an assignment: a stem before any mark, a pin what its gate receives.

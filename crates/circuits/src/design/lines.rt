@@ -1,12 +1,21 @@
 //! The lines of a design's circuit, by their numbers.
-ghost use Rattle.std.specs.Prelude.{◌≡◌, ℕ, true, length, is_some, Some, nat_lt};
+ghost use Rattle.std.specs.Prelude.{◌≡◌, ℕ, ◌^◌, ◌<◌, true, length, is_some, Some, nat_lt};
 ghost use Rattle.circuits.specs.declared.place.Place.{Place};
 ghost use Rattle.circuits.specs.Drafts.{design_parts};
-ghost use Rattle.circuits.specs.Lines.{stem_count, line_count, line_of, place_of};
+ghost use Rattle.circuits.specs.Lines.{stem_count, pin_count, line_count, line_of, place_of};
 
 use crate::counts::Counts;
 use crate::design::Design;
+use crate::gate::Gate;
 use crate::place::Place;
+
+// How many pins the gates have together.
+fn count_pins(gates: &[Gate]) -> usize
+    requires { pin_count gates.now < 2 ^ 64 }
+    ensures { result ≡ pin_count gates.now }
+{
+    gates.iter().map(|gate| gate.pins.as_slice().len()).sum()
+}
 
 impl Design {
     /// How many inputs, gates and outputs there are.
@@ -23,29 +32,22 @@ impl Design {
         }
     }
 
-    // How many stems there are: the inputs and the gates.
-    pub(super) fn stems(&self) -> usize
-        ensures { result ≡ stem_count (design_parts self.now).circuit }
-    {
-        self.draft.circuit.inputs.len() + self.draft.circuit.gates.len()
-    }
-
     /// The place of a line, or none past the last line.
     pub fn place(&self, line: usize) -> Option<Place>
         ensures value { result ≡ place_of (design_parts self.now).circuit line }
         ensures exists { is_some result ≡ nat_lt line (line_count (design_parts self.now).circuit) }
         ensures back { (p : Place) → result ≡ Some p → line_of (design_parts self.now).circuit p ≡ Some line }
     {
-        let stems = self.stems();
+        let stems = self.draft.circuit.stems();
         if line < stems {
             return Some(Place::Stem(line));
         }
         let mut left = line - stems;
-        for gate in 0..self.draft.circuit.gates.len() {
-            let pins = self.draft.circuit.gates[gate].pins.as_slice().len();
+        for (number, gate) in self.draft.circuit.gates.iter().enumerate() {
+            let pins = gate.pins.as_slice().len();
             if left < pins {
                 return Some(Place::Pin {
-                    gate,
+                    gate: number,
                     position: left,
                 });
             }
@@ -60,13 +62,7 @@ impl Design {
         ensures back { (l : ℕ) → result ≡ Some l → place_of (design_parts self.now).circuit l ≡ Some place }
     {
         match place {
-            Place::Stem(stem) => {
-                if stem < self.stems() {
-                    Some(stem)
-                } else {
-                    None
-                }
-            }
+            Place::Stem(stem) => (stem < self.draft.circuit.stems()).then_some(stem),
             Place::Pin { gate, position } => self.pin_line(gate, position),
         }
     }
@@ -75,16 +71,8 @@ impl Design {
     fn pin_line(&self, gate: usize, position: usize) -> Option<usize>
         ensures { result ≡ line_of (design_parts self.now).circuit (Place.Pin gate position) }
     {
-        if gate >= self.draft.circuit.gates.len() {
-            return None;
-        }
-        if position >= self.draft.circuit.gates[gate].pins.as_slice().len() {
-            return None;
-        }
-        let mut line = self.stems() + position;
-        for k in 0..gate {
-            line += self.draft.circuit.gates[k].pins.as_slice().len();
-        }
-        Some(line)
+        self.pin(gate, position)?;
+        let before = count_pins(&self.draft.circuit.gates[..gate]);
+        Some(self.draft.circuit.stems() + before + position)
     }
 }

@@ -33,22 +33,14 @@ impl Design {
         ensures value { result ≡ option_map (meets (design_parts self.now).circuit (design_parts self.now).rows output) (slice_get (design_parts self.now).circuit.outputs output) }
     {
         let pin = self.output_pin(output)?;
-        for assignment in 0..self.assignments() {
-            if !self.obeys_at(pin, output, assignment) {
-                return Some(false);
-            }
-        }
-        Some(true)
+        Some((0..self.assignments()).all(|assignment| self.obeys_at(pin, output, assignment)))
     }
 
     // Whether there is such an output and it does not meet its rows.
     fn is_missed(&self, output: usize) -> bool
         ensures { result ≡ unwrap_or (option_map (λ x. not (meets (design_parts self.now).circuit (design_parts self.now).rows output x)) (slice_get (design_parts self.now).circuit.outputs output)) false }
     {
-        match self.meets(output) {
-            Some(met) => !met,
-            None => false,
-        }
+        self.meets(output) == Some(false)
     }
 
     /// How many outputs do not meet their rows. None does where what each line carries repairs it, and only there.
@@ -56,13 +48,8 @@ impl Design {
         ensures repaired { (result ≡ 0) ↔ Repaired (design_parts self.now).circuit (design_parts self.now).rows }
         ensures value { result ≡ misses (design_parts self.now).circuit (design_parts self.now).rows }
     {
-        let outputs = self.draft.circuit.outputs.len();
-        let mut count = 0;
-        for output in 0..outputs {
-            if self.is_missed(output) {
-                count += 1;
-            }
-        }
-        count
+        (0..self.draft.circuit.outputs.len())
+            .filter(|output| self.is_missed(*output))
+            .count()
     }
 }

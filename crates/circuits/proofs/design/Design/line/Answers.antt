@@ -1,10 +1,10 @@
-use Rattle.std.proofs.Common.{◌≡◌, sym, ap, ◌∙◌}
+use Rattle.std.proofs.Common.{sym, ap, ◌∙◌}
 use Rattle.circuits.specs.Circuits.{net}
 use Rattle.circuits.specs.Lines.{line_of}
 use Rattle.circuits.proofs.Numbering.{line_back}
 use Rattle.circuits.proofs.design.Design.line.Goals as goal
 
-pub returns-in-Pin : goal.returns-in-Pin
-returns-in-Pin c =
-    let value : c.pin_line.result ≡ line_of (net c.args.self.now.draft.circuit) c.args.place = c.pin_line.ensures ∙ ap (line_of (net c.args.self.now.draft.circuit)) (sym c.in-Pin.is) in
-    record { value = value; back = λ l e. line_back (net c.args.self.now.draft.circuit) c.args.place l (sym value ∙ e) }
+pub returns-in-Pin-clause-back : goal.returns-in-Pin-clause-back
+returns-in-Pin-clause-back c l e =
+    let n = net c.args.self.now.draft.circuit in
+    line_back n c.args.place l (ap (line_of n) c.in-Pin.is ∙ (sym c.pin_line.ensures ∙ e))

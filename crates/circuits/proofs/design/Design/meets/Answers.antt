@@ -1,19 +1,18 @@
-use Rattle.std.proofs.Common.{◌≡◌, ℕ, Bool, true, ◌↔◌, Some, Option, sym, refl, ap, ◌∙◌, arith}
+use Rattle.std.proofs.Common.{◌≡◌, ℕ, Bool, true, ◌↔◌, Some, Option, sym, refl, ap, ◌∙◌, arith, rules, tests}
 use Rattle.std.specs.Option.{option_map}
 use Rattle.std.specs.List.{slice_get}
-use Rattle.circuits.specs.Circuits.{assignments, carried, through}
+use Rattle.std.proofs.lemmas.Iterator.{YieldsList-from_range}
+use Rattle.std.proofs.lemmas.Iterator.Search.{all_from_yields_List}
+use Rattle.circuits.specs.Circuits.{carried, through}
 use Rattle.circuits.specs.Drafts.{design_parts}
 use Rattle.circuits.specs.Specification.{bound, obeys, each_below, meets, Obeyed}
 use Rattle.circuits.specs.declared.design.Design.{Design}
 use Rattle.circuits.specs.declared.gate.Output.{Output}
 use Rattle.circuits.proofs.Agreeing.{meets_rows}
+use Rattle.circuits.proofs.Recursions.{each_below_all}
 use Rattle.circuits.proofs.Rules.{design_rules}
-use Rattle.circuits.proofs.Binding.{each_below_not, each_below_more, meets_by_pin, meets_no_output}
+use Rattle.circuits.proofs.Binding.{meets_by_pin, meets_no_output}
 use Rattle.circuits.proofs.design.Design.meets.Goals as goal
-
-pub loop-assignment-init : goal.loop-assignment-init
-unfolding each_below
-loop-assignment-init c = refl
 
 -- the answer, with what it says of the rows
 both :
@@ -28,20 +27,13 @@ returns-in_err-pin c =
     let d = design_parts c.args.self.now in
     both c.args.self.now c.args.output _ (c.from_residual.ensures ∙ meets_no_output d.circuit d.rows c.args.output c.in_err-pin.ensures.value)
 
-pub returns-then-not-obeys_at : goal.returns-then-not-obeys_at
-returns-then-not-obeys_at c =
-    let d = design_parts c.args.self.now in
-    both c.args.self.now c.args.output _
-    (meets_by_pin d.circuit d.rows c.args.output c.in_ok-pin.pin _ c.in_ok-pin.ensures.value
-    (sym (each_below_not _ c.loop-assignment.assignment _ (omega (arith, c.assignments-assignment-end.ensures)) (sym c.if-not-obeys_at.ensures))))
-
 pub returns : goal.returns
 returns c =
     let d = design_parts c.args.self.now in
-    let end : c.loop-assignment.assignment ≡ assignments d.circuit = omega (arith, c.assignments-assignment-end.ensures) in
+    let t = λ (a : ℕ). obeys (bound d.rows c.args.output a) (through c.in_ok-pin.pin (carried d.circuit a)) in
+    let n = c.assignments.result in
+    let each : c.all.result ≡ each_below n t =
+    all_from_yields_List t _ _ _ c.all.ensures.ran (YieldsList-from_range 0 n n refl (omega arith)) (λ x b q k. search (rules, tests)) ∙ sym (each_below_all n t)
+    in
     both c.args.self.now c.args.output _
-    (meets_by_pin d.circuit d.rows c.args.output c.in_ok-pin.pin _ c.in_ok-pin.ensures.value
-    (sym c.loop-assignment.invariant ∙ ap (λ n. each_below n (λ a. obeys (bound d.rows c.args.output a) (through c.in_ok-pin.pin (carried d.circuit a)))) end))
-
-pub loop-assignment-preserved : goal.loop-assignment-preserved
-loop-assignment-preserved c = each_below_more c.loop-assignment.assignment _ c.loop-assignment.invariant (sym c.if-not-obeys_at.ensures)
+    (meets_by_pin d.circuit d.rows c.args.output c.in_ok-pin.pin _ c.in_ok-pin.ensures.value (each ∙ ap (λ m. each_below m t) c.assignments.ensures))

@@ -1,28 +1,18 @@
-use Rattle.std.proofs.Common.{true, false, sym, ◌∙◌, add-zero, arith}
+use Rattle.std.proofs.Common.{◌≡◌, length, arith, sym, ◌∙◌, rules, tests}
+use Rattle.std.proofs.lemmas.Iterator.{YieldsList-from_range}
+use Rattle.std.proofs.lemmas.Iterator.Consumers.{YieldsList-from_filter, count_from_yields_List}
 use Rattle.circuits.specs.Drafts.{design_parts}
-use Rattle.circuits.proofs.Binding.{missed_none, missed_more, missed_all}
+use Rattle.circuits.specs.Specification.{misses}
+use Rattle.circuits.proofs.Binding.{missed, misses_counted}
 use Rattle.circuits.proofs.Repairing.{misses_repaired}
 use Rattle.circuits.proofs.design.Design.misses.Goals as goal
-use Rattle.circuits.proofs.design.Design.misses.Goals.{then-is_missed, else-is_missed}
-
-pub loop-output-init : goal.loop-output-init
-loop-output-init c = missed_none (design_parts c.args.self.now).circuit (design_parts c.args.self.now).rows
-
-pub loop-output-preserved : goal.loop-output-preserved
-loop-output-preserved c =
-    let d = design_parts c.args.self.now in
-    let e = c.args.self.now.draft.circuit.outputs.ok.0 in
-    elim c.if-is_missed.branch [
-      | then-is_missed w ↦
-          missed_more d.circuit d.rows c.loop-output.output c.loop-output.count c.if-is_missed.count true (omega (arith, e, c.len-outputs.ensures)) w.if-is_missed.ensures w.count-is c.loop-output.invariant
-      | else-is_missed w ↦
-          missed_more d.circuit d.rows c.loop-output.output c.loop-output.count c.if-is_missed.count false (omega (arith, e, c.len-outputs.ensures)) w.if-is_missed.ensures
-          (w.count-is ∙ sym (add-zero c.loop-output.count)) c.loop-output.invariant
-    ]
 
 pub returns : goal.returns
 returns c =
     let d = design_parts c.args.self.now in
-    let e = c.args.self.now.draft.circuit.outputs.ok.0 in
-    let value = missed_all d.circuit d.rows c.loop-output.output c.loop-output.count (omega (arith, e, c.len-outputs.ensures)) c.loop-output.invariant in
-    record { repaired = misses_repaired d.circuit d.rows c.loop-output.count c.args.self.now.lawful value; value = value }
+    let value : c.count.result ≡ misses d.circuit d.rows =
+    count_from_yields_List c.filter.result _ c.count.ensures.ran
+    (YieldsList-from_filter _ (missed d.circuit d.rows) (YieldsList-from_range 0 c.len.result (length d.circuit.outputs) c.filter.ensures.source (omega (arith, c.len.ensures, c.args.self.now.draft.circuit.outputs.ok.0))) c.filter.ensures.closure (λ x r q k. search (rules, tests)))
+    ∙ sym (misses_counted d.circuit d.rows)
+    in
+    record { repaired = misses_repaired d.circuit d.rows c.count.result c.args.self.now.lawful value; value = value }

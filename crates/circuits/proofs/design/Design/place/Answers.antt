@@ -6,20 +6,21 @@ use Rattle.circuits.proofs.design.Design.place.Goals as goal
 pub returns-then-left-pins : goal.returns-then-left-pins
 returns-then-left-pins c =
     let n = net c.args.self.now.draft.circuit in
-    let e = c.args.self.now.draft.circuit.gates.ok.0 in
-    let f = passed_found n c.args.line c.loop-gate.gate c.loop-gate.left c.index.result.now (omega (arith, e, c.len-gate-end.ensures)) c.index.ensures c.loop-gate.invariant (omega (arith, ap length c.as_slice-pins.ensures)) in
+    let e = c.deref-gate-items.ensures in
+    let is = rw e.value at c.gate-item.is in
+    let f = passed_found n c.args.line c.loop-number.number c.loop-number.left c.gate-item.result (rw (← e.value) c.loop-number-test.true) is c.loop-number.invariant (omega (arith, ap length c.as_slice-pins.ensures)) in
     record { value = sym f; exists = ap is_some (sym f) ∙ place_test n c.args.line; back = λ p i. place_back n c.args.line p (f ∙ i) }
 
-pub loop-gate-preserved : goal.loop-gate-preserved
-loop-gate-preserved c =
+pub loop-number-preserved : goal.loop-number-preserved
+loop-number-preserved c =
     let n = net c.args.self.now.draft.circuit in
-    let e = c.args.self.now.draft.circuit.gates.ok.0 in
-    let m = passed_more n c.args.line c.loop-gate.gate c.loop-gate.left c.index.result.now (omega (arith, e, c.len-gate-end.ensures)) c.index.ensures c.loop-gate.invariant (omega (arith, ap length c.as_slice-pins.ensures)) in
-    rw c.as_slice-pins.ensures m
+    let e = c.deref-gate-items.ensures in
+    let is = rw e.value at c.gate-item.is in
+    rw c.as_slice-pins.ensures
+    (passed_more n c.args.line c.loop-number.number c.loop-number.left c.gate-item.result (rw (← e.value) c.loop-number-test.true) is c.loop-number.invariant (omega (arith, ap length c.as_slice-pins.ensures)))
 
 pub returns : goal.returns
 returns c =
     let n = net c.args.self.now.draft.circuit in
-    let e = c.args.self.now.draft.circuit.gates.ok.0 in
-    let f = passed_all n c.args.line c.loop-gate.gate c.loop-gate.left (omega (arith, e, c.len-gate-end.ensures)) c.loop-gate.invariant in
+    let f = passed_all n c.args.line c.loop-number.number c.loop-number.left (rw (← c.deref-gate-items.ensures.value) c.loop-number-test.false) c.loop-number.invariant in
     record { value = sym f; exists = ap is_some (sym f) ∙ place_test n c.args.line; back = λ p i. place_back n c.args.line p (f ∙ i) }
