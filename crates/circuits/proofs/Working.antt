@@ -14,7 +14,6 @@ use Rattle.std.specs.List.{slice_get}
 use Rattle.std.specs.Option.{IfSome, option_map}
 use Rattle.std.proofs.lemmas.Option.{IfSome_then}
 
-
 -- what each pin gets
 pub received_each : (g i : ℕ) (stems : List Bool) (ps : List Pin) → received nothing g i stems ps ≡ map (λ (p : Pin). through p stems) ps
 unfolding received
