@@ -86,13 +86,6 @@ pub record Room (i g o r : ℕ) : Type 0 where
   pub for_outputs : 16 ≤ o
   pub for_rows : 256 ≤ r
 
-unfoldable pub room_parts : (i g o r : ℕ) → roomy i g o r ≡ true → Room i g o r
-room_parts i g o r h =
-    let p = and_parts (leb 12 i && leb 64 g) (leb 16 o && leb 256 r) h in
-    let q = and_parts (leb 12 i) (leb 64 g) p.0 in
-    let s = and_parts (leb 16 o) (leb 256 r) p.1 in
-    record { for_inputs = leb-true 12 i q.0; for_gates = leb-true 64 g q.1; for_outputs = leb-true 16 o s.0; for_rows = leb-true 256 r s.1 }
-
 pub room_from : (i g o r : ℕ) → Room i g o r → roomy i g o r ≡ true
 room_from i g o r k =
     and_from (leb 12 i && leb 64 g) (leb 16 o && leb 256 r) (and_from (leb 12 i) (leb 64 g) (le-leb 12 i k.for_inputs) (le-leb 64 g k.for_gates))

@@ -4,8 +4,7 @@ use Rattle.circuits.specs.declared.gate.Gate.{Gate}
 use Rattle.circuits.specs.declared.gate.Output.{Output}
 use Rattle.circuits.specs.declared.name.Name.{Name}
 use Rattle.circuits.specs.declared.row.SpecRow.{SpecRow}
-use Rattle.circuits.specs.Circuits.{name_bytes}
-use Rattle.circuits.specs.Drafts.{Parts, no_parts, Smallest}
+use Rattle.circuits.specs.Drafts.{Parts, no_parts}
 use Rattle.circuits.specs.Legality.{gates_legal, outputs_legal, position, apart_from, rows_legal, consistent_from, drafted, legal}
 
 pub nothing_drafted :
@@ -18,13 +17,3 @@ module _ (d : Parts) (x : Name) (is : List Name) (os : List Output) (none : d �
   pub smallest_legal : legal (record { inputs = is; gates = d.circuit.gates; outputs = os }) d.rows ≡ true
   unfolding legal drafted gates_legal outputs_legal position apart_from rows_legal consistent_from
   smallest_legal = rw (input, output, none) refl
-
-  pub smallest_parts : name_bytes x ≡ 97 ∷ [] → Smallest (record { circuit = record { inputs = is; gates = d.circuit.gates; outputs = os }; rows = d.rows })
-  smallest_parts a =
-      record {
-        input_name = rw (input, none, a) refl;
-        no_gates = rw none refl;
-        output_name = rw (output, none, a) refl;
-        output_pin = rw (output, none) refl;
-        no_rows = rw none refl;
-      }

@@ -1,11 +1,7 @@
 use Rattle.std.proofs.Common.{arith}
 use Rattle.circuits.specs.Circuits.{net}
-use Rattle.circuits.proofs.Fronts.{taken}
 use Rattle.circuits.proofs.Working.{inputs_more, gates_none, gates_more, gates_all, gate_next}
 use Rattle.circuits.proofs.circuit.Circuit.stem_bits.Goals as goal
-
-pub unwrap-requires : goal.unwrap-requires
-unwrap-requires c = taken _ _ c.push.result c.push.ensures (λ full. let n = full.0 in omega (arith, c.loop-k.invariant.count))
 
 pub loop-k-preserved : goal.loop-k-preserved
 loop-k-preserved c = inputs_more _ _ _ _ _ (omega arith) (rw c.unwrap.ensures at c.push.ensures).1 c.loop-k.invariant
@@ -16,9 +12,6 @@ loop-gate-init c = gates_none (net c.args.self.now) _ _ c.loop-k.k (omega arith)
 pub work_out-bit-requires : goal.work_out-bit-requires
 work_out-bit-requires c =
     rw c.as_slice.ensures (gate_next (net c.args.self.now) c.args.assignment _ c.loop-gate.gate-index c.gate-item.result c.requires.legal (rw (← c.deref-gate-items.ensures.value) c.loop-gate-test.true) (rw (← c.deref-gate-items.ensures.value) c.gate-item.is) c.loop-gate.invariant)
-
-pub unwrap-requires-in-loop-gate : goal.unwrap-requires-in-loop-gate
-unwrap-requires-in-loop-gate c = taken _ _ c.push-in-loop-gate.result c.push-in-loop-gate.ensures (λ full. let n = full.0 in omega (arith, c.loop-gate.invariant.count))
 
 pub loop-gate-preserved : goal.loop-gate-preserved
 loop-gate-preserved c =

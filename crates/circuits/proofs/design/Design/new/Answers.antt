@@ -1,14 +1,13 @@
-use Rattle.std.proofs.Common.{[], ◌∷◌, refl}
+use Rattle.std.proofs.Common.{◌≡◌, true, [], ◌∷◌, refl, rules}
 use Rattle.circuits.specs.Drafts.{draft_parts}
 use Rattle.circuits.specs.Names.{letters, is_name}
-use Rattle.circuits.proofs.Naming.{named}
 use Rattle.circuits.proofs.Rules.{whole}
-use Rattle.circuits.proofs.Starts.{smallest_legal, smallest_parts}
+use Rattle.circuits.proofs.Starts.{smallest_legal}
 use Rattle.circuits.proofs.design.Design.new.Goals as goal
 
 pub unwrap-name-requires : goal.unwrap-name-requires
 unfolding is_name letters
-unwrap-name-requires c = named (97 ∷ []) c.new-2.result c.new-2.ensures refl
+unwrap-name-requires c = let good : is_name (97 ∷ []) ≡ true = refl in search rules
 
 pub invariant_of-draft : goal.invariant_of-draft
 invariant_of-draft c =
@@ -19,8 +18,3 @@ invariant_of-draft c =
 pub invariant_of-result : goal.invariant_of-result
 invariant_of-result c =
     record { lawful = smallest_legal (draft_parts c.in_ok-draft.draft) _ _ _ c.in_ok-draft.ensures c.push_reserved.ensures.items c.push_reserved-2.ensures.items }
-
-pub returns : goal.returns
-returns c =
-    smallest_parts (draft_parts c.in_ok-draft.draft) _ _ _ c.in_ok-draft.ensures c.push_reserved.ensures.items c.push_reserved-2.ensures.items
-    (rw c.unwrap-name.ensures at c.new-2.ensures).1

@@ -9,6 +9,5 @@ stem_bits-requires c =
     let r = design_rules (net c.args.self.now.draft.circuit) _ c.args.self.now.lawful in
     record { inputs = r.few_inputs; gates = r.few_gates; legal = r.gates_good }
 
-pub returns : goal.returns
-returns c =
-    record { bits = c.stem_bits.ensures; one_each = ap length c.stem_bits.ensures ∙ stems_length nothing (net c.args.self.now.draft.circuit) c.args.assignment }
+pub returns-clause-one_each : goal.returns-clause-one_each
+returns-clause-one_each c = ap length c.stem_bits.ensures ∙ stems_length nothing (net c.args.self.now.draft.circuit) c.args.assignment

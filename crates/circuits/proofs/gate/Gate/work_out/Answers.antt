@@ -8,11 +8,6 @@ use Rattle.circuits.specs.declared.pin.Pin.{Pin}
 use Rattle.circuits.proofs.Working.{received_each}
 use Rattle.circuits.proofs.gate.Gate.work_out.Goals as goal
 
-pub count_ones-requires : goal.count_ones-requires
-count_ones-requires c =
-    rw c.as_slice-pins.ensures
-    (and_parts (fits c.args.self.now.kind (length (pins_of c.args.self.now))) (pins_read (length c.args.stems.now) (pins_of c.args.self.now)) c.requires).1
-
 pub returns : goal.returns
 returns c g =
     let pins = pins_of c.args.self.now in
