@@ -83,11 +83,3 @@ meets_by_pin c rows k p b is e = go (slice_get c.outputs k) is
     go (Some x) f =
         let g : p ≡ x.pin = cc in
         ap (λ t. Some t) (e ∙ ap (λ q. each_below (assignments c) (λ a. obeys (bound rows k a) (through q (carried c a)))) g)
-
-pub meets_no_output :
-    (c : Net) (rows : List SpecRow) (k : ℕ) → None ≡ option_map (λ (x : Output). x.pin) (slice_get c.outputs k) → None ≡ option_map (meets c rows k) (slice_get c.outputs k)
-meets_no_output c rows k is = go (slice_get c.outputs k) is
-  where
-    go : (o : Option Output) → None ≡ option_map (λ (x : Output). x.pin) o → None ≡ option_map (meets c rows k) o
-    go None f = refl
-    go (Some x) f = let z : ◌≡◌ {A = ℕ} 0 1 = cc in let y : ⊥ = omega arith in absurd y

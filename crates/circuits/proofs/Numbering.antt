@@ -2,7 +2,7 @@
 use Rattle.std.proofs.Common.{◌≡◌, ℕ, zero, suc, ◌+◌, ◌-◌, ◌*◌, ◌<◌, ◌≤◌, Bool, true, false, ltb, List, [], ◌∷◌, length, get_or, take, drop, is_some, Some, None, Option, sym, refl, ap, ◌∙◌, ⊎_elim, zero-add, add-one, arith}
 use Rattle.std.specs.Option.{option_map}
 use Rattle.std.specs.List.{slice_get}
-use Rattle.std.proofs.lemmas.List.{drop_more, drop_all}
+use Rattle.std.proofs.lemmas.List.{length-take, drop_more, drop_all}
 use Rattle.std.proofs.lemmas.Option.{slice_get-get_or}
 use Rattle.std.proofs.lemmas.Bool.{ltb-true, lt-ltb, le-ltb, cases_lt, false≢true}
 use Rattle.std.proofs.lemmas.Bool.Decides.{nat_tests}
@@ -166,6 +166,10 @@ pub pin_count_le : (gs : List Gate) → pin_count gs ≤ 4 * length gs
 unfolding pin_count
 pin_count_le [] = omega arith
 pin_count_le (g ∷ gs) = omega (arith, few g.pins, pin_count_le gs)
+
+-- of the first gates
+pub first_pins_le : (gs : List Gate) (k : ℕ) → pin_count (take k gs) ≤ 4 * length gs
+first_pins_le gs k = omega (arith, pin_count_le (take k gs), length-take k gs)
 
 -- a gate has at most four pins
 pub pin_small : (gs : List Gate) (k i : ℕ) (p : Pin) → pin_at gs k i ≡ Some p → i < 4

@@ -4,7 +4,7 @@ use Rattle.std.specs.Option.{option_map}
 use Rattle.std.proofs.lemmas.Option.{gets}
 use Rattle.circuits.specs.Circuits.{net}
 use Rattle.circuits.specs.declared.gate.Output.{Output}
-use Rattle.circuits.proofs.Rules.{design_rules}
+use Rattle.circuits.proofs.Rules.{design_keeps}
 use Rattle.circuits.proofs.Working.{output_reads}
 use Rattle.circuits.proofs.design.Design.output_pin.Goals as goal
 
@@ -12,4 +12,4 @@ pub returns-clause-reads : goal.returns-clause-reads
 returns-clause-reads c =
     let n = net c.args.self.now.draft.circuit in
     let value : c.map.result ≡ option_map (λ (x : Output). x.pin) (slice_get n.outputs c.args.output) = search (rules, gets) in
-    rw value (output_reads _ n.outputs c.args.output (design_rules n _ c.args.self.now.lawful).outputs_good)
+    rw value (output_reads _ n.outputs c.args.output (design_keeps c.args.self.now).outputs_good)

@@ -1,12 +1,12 @@
 use Rattle.std.proofs.Common.{length, ap, ◌∙◌}
 use Rattle.circuits.specs.Circuits.{net, nothing}
-use Rattle.circuits.proofs.Rules.{design_rules}
+use Rattle.circuits.proofs.Rules.{design_keeps}
 use Rattle.circuits.proofs.Working.{stems_length}
 use Rattle.circuits.proofs.design.Design.stem_bits.Goals as goal
 
 pub stem_bits-requires : goal.stem_bits-requires
 stem_bits-requires c =
-    let r = design_rules (net c.args.self.now.draft.circuit) _ c.args.self.now.lawful in
+    let r = design_keeps c.args.self.now in
     record { inputs = r.few_inputs; gates = r.few_gates; legal = r.gates_good }
 
 pub returns-clause-one_each : goal.returns-clause-one_each
