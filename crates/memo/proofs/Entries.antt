@@ -6,12 +6,12 @@ use Rattle.stores.specs.declared.fault.StoreFault.{StoreFault}
 use Rattle.stores.specs.declared.fault.StoreFault.TheVariants.{Inputs, Places, Bounds}
 use Rattle.stores.specs.Functions.{Function, never, same}
 use Rattle.stores.specs.Meaning.{Meaning, Rule, Lawful, Grown, Gained, Stands, at, has, different, kept, cut}
+use Rattle.stores.specs.Calls.{asked, Fits, Asks}
 use Rattle.stores.proofs.Sames.{has_append, same_sym, same_refl}
 use Rattle.stores.proofs.Laws.{held_already, gained_fits, grown_longer, stands_once, kept_one}
-use Rattle.memo.specs.declared.call.Call.{Call}
-use Rattle.memo.specs.declared.call.Call.TheVariants.{Variable, Join, Flip, Fix}
-use Rattle.memo.specs.declared.call.Entry.{Entry}
-use Rattle.memo.specs.Calls.{asked, Fits, Asks}
+use Rattle.stores.specs.declared.call.Call.{Call}
+use Rattle.stores.specs.declared.call.Call.TheVariants.{Variable, Join, Flip, Fix}
+use Rattle.memo.specs.declared.entry.Entry.{Entry}
 use Rattle.memo.specs.Memos.{Right}
 
 -- two meanings that agree on their inputs and their first k functions

@@ -6,11 +6,12 @@ use Rattle.std.proofs.lemmas.List.{get_or-replicate, get_or_past}
 use Rattle.std.proofs.lemmas.Bool.{cases_eq, cases_lt, cases_Bool, ltb-false}
 use Rattle.stores.specs.Functions.{never, always}
 use Rattle.stores.specs.Meaning.{Meaning, Rule, Lawful, cut}
+use Rattle.stores.specs.Calls.{Asks}
 use Rattle.stores.proofs.Sames.{constants_differ}
 use Rattle.stores.proofs.Laws.{good_cut}
-use Rattle.memo.specs.declared.call.Call.{Call}
-use Rattle.memo.specs.declared.call.Entry.{Entry}
-use Rattle.memo.specs.Calls.{place_of, Asks}
+use Rattle.stores.specs.declared.call.Call.{Call}
+use Rattle.memo.specs.declared.entry.Entry.{Entry}
+use Rattle.memo.specs.Calls.{place_of}
 use Rattle.memo.specs.Memos.{Right, SoundMemo, Remembered, Recalled, Memoized, Forgets, entry_at, left_of}
 use Rattle.memo.proofs.Entries.{right_grown, right_cut, right_new, recalled_asks, only_answer}
 

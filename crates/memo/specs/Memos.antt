@@ -3,9 +3,10 @@ use Rattle.std.specs.Prelude.{◌≡◌, ℕ, ◌<◌, ◌≤◌, true, cond, Li
 use Rattle.stores.specs.declared.fault.StoreFault.{StoreFault}
 use Rattle.stores.specs.Functions.{Function, Same}
 use Rattle.stores.specs.Meaning.{Meaning, Rule, Lawful, at, has}
-use Rattle.memo.specs.declared.call.Call.{Call}
-use Rattle.memo.specs.declared.call.Entry.{Entry}
-use Rattle.memo.specs.Calls.{place_of, asked, Fits, Asks}
+use Rattle.stores.specs.Calls.{asked, Fits, Asks}
+use Rattle.stores.specs.declared.call.Call.{Call}
+use Rattle.memo.specs.declared.entry.Entry.{Entry}
+use Rattle.memo.specs.Calls.{place_of}
 
 -- An entry is right: among the functions that were held at the end of its call, its answer is the function asked for,
 -- and all that is kept for that function stands there too.

@@ -5,10 +5,10 @@ use Rattle.std.proofs.Props.{props}
 use mathlib.Core.HLevel.{Σ_prop_path}
 use Rattle.stores.specs.Functions.{Function, never, always}
 use Rattle.stores.specs.Meaning.{Meaning, Rule, Good, different}
-use Rattle.memo.specs.declared.call.Call.{Call}
-use Rattle.memo.specs.declared.call.Call.TheVariants.{Variable, Join, Flip, Fix}
-use Rattle.memo.specs.declared.call.Entry.{Entry}
-use Rattle.memo.specs.Calls.{Fits}
+use Rattle.stores.specs.Calls.{Fits}
+use Rattle.stores.specs.declared.call.Call.{Call}
+use Rattle.stores.specs.declared.call.Call.TheVariants.{Variable, Join, Flip, Fix}
+use Rattle.memo.specs.declared.entry.Entry.{Entry}
 use Rattle.memo.specs.Memos.{SoundMemo}
 
 -- what a list has after false and true

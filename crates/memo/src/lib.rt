@@ -1,9 +1,10 @@
 //! The memo: a store laid over any other store, which remembers the calls that it answered.
 #![tactic(auto)]
 
-mod call;
+mod entry;
 mod memo;
 mod store;
 
-pub use call::{Call, Entry};
+pub use entry::Entry;
 pub use memo::Memo;
+pub use stores::Call;

@@ -1,11 +1,11 @@
 //! The memo: what it holds, and how it remembers.
 ghost use Rattle.std.specs.Prelude.{◌≡◌, replicate, None};
-ghost use Rattle.memo.specs.Calls.{Asks};
+ghost use Rattle.stores.specs.Calls.{Asks};
 ghost use Rattle.memo.specs.Memos.{SoundMemo, Recalled, Memoized, Forgets};
 ghost use Rattle.memo.specs.Props.{SoundMemo-prop};
 
-use crate::call::{Call, Entry};
-use stores::{Store, StoreFault};
+use crate::entry::{Entry, place};
+use stores::{Call, Store, StoreFault};
 
 /// A store over another store, which it owns. It remembers up to 64 answered calls that yielded a function, always with
 /// the newest, and answers a remembered call without a call of the store below.
@@ -41,7 +41,7 @@ impl<S: Store> Memo<S> {
     fn recall(&self, call: Call) -> Option<usize>
         ensures { Recalled self.now.entries call result }
     {
-        let entry = self.entries[call.place()]?;
+        let entry = self.entries[place(call)]?;
         (entry.call == call).then_some(entry.answer)
     }
 
@@ -56,7 +56,7 @@ impl<S: Store> Memo<S> {
         }
         let h = call.ask(&mut self.below)?;
         let length = self.below.length();
-        self.entries[call.place()] = Some(Entry {
+        self.entries[place(call)] = Some(Entry {
             call,
             answer: h,
             length,

@@ -3,9 +3,8 @@ ghost use Rattle.std.specs.Prelude.{◌≡◌};
 ghost use Rattle.stores.specs.Meaning.{Starts, Takes, Joins, Flips, Fixes, Releases};
 ghost use Rattle.memo.specs.Memos.{Memoized, Started, Released};
 
-use crate::call::Call;
 use crate::memo::{Memo, forget};
-use stores::{Operation, Store, StoreFault};
+use stores::{Call, Operation, Store, StoreFault};
 
 impl<S: Store> Store for Memo<S> {
     ghost meaning = { λ s. S.Store.meaning s.below };
