@@ -1,7 +1,7 @@
 //! The calls of a function store as values, as a table of calls writes them.
 #![tactic(auto)]
 
-mod call;
+mod request;
 mod run;
 
-pub use call::Call;
+pub use request::Request;

@@ -1,5 +1,5 @@
 //! Sequences of calls of a word store, as a table.
-use calls::Call;
+use calls::Request;
 use stores::Words;
 
 // Runs the calls of a table, a line for each, over this many words. A line is a call's name and its numbers.
@@ -13,8 +13,8 @@ pub(crate) fn run_table(rt: &HostRuntime, places: usize, table: &str) -> anyhow:
         for number in &mut numbers {
             *number = fields.next().unwrap_or("").parse::<usize>().unwrap_or(0);
         }
-        let call = Call::named(name, numbers).unwrap_or(Call::Length);
-        match call.run(&mut store) {
+        let request = Request::named(name, numbers).unwrap_or(Request::Length);
+        match request.run(&mut store) {
             Ok(answer) => println!(rt; "{answer}")?,
             Err(fault) => {
                 let stop = fault.number();

@@ -1,15 +1,7 @@
 //! Sequences of store calls, as a table.
-use calls::Call;
+use calls::Request;
 use std::alloc::Global;
 use stores::Store;
-
-// Whether a call yields a function.
-fn yields(call: Call) -> bool {
-    matches!(
-        call,
-        Call::Variable(_) | Call::Join(..) | Call::Majority(..) | Call::Flip(_) | Call::Fix(..)
-    )
-}
 
 // A number that tells a held function's truth table, point by point.
 fn digest<S: Store>(store: &S, h: usize, inputs: usize) -> u64 {
@@ -53,19 +45,19 @@ pub(crate) fn run_table<S: Store>(
         for number in &mut numbers {
             *number = operand(fields.next(), fields.next(), answers.as_slice());
         }
-        let call = Call::named(name, numbers).unwrap_or(Call::Length);
-        let answer = call.run(store);
+        let request = Request::named(name, numbers).unwrap_or(Request::Length);
+        let answer = request.run(store);
         answers.push(answer.unwrap_or(0))?;
-        match (call, answer) {
+        match (request, answer) {
             (_, Err(fault)) => {
                 let stop = fault.number();
                 writeln!(told, "stop {stop}")?;
             }
-            (Call::Start(n), Ok(answer)) => {
+            (Request::Start(n), Ok(answer)) => {
                 inputs = n;
                 writeln!(told, "{answer}")?;
             }
-            (_, Ok(h)) if yields(call) => {
+            (Request::Yield(_) | Request::Majority(..), Ok(h)) => {
                 let length = store.length();
                 let digest = digest(store, h, inputs);
                 writeln!(told, "{length} {digest}")?;
