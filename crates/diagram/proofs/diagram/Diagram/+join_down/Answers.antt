@@ -1,17 +1,16 @@
 use Rattle.std.proofs.Common.{◌≡◌, min, ap, ◌∙◌, subst, arith}
 use Rattle.stores.specs.Functions.{joined}
 use Rattle.diagram.specs.Diagrams.{top_of, function_of, BuildsOf}
-use Rattle.diagram.proofs.Building.{extends_none}
-use Rattle.diagram.proofs.Joining.{settled_built, low_refused, high_ready, high_exit, node_ready, whole_built, builds_exit, extends_then}
+use Rattle.diagram.proofs.Joining.{settled_built, low_refused, high_ready, high_exit, node_ready, whole_built, builds_exit}
 use Rattle.diagram.proofs.diagram.Diagram.+join_down.Goals as goal
 
-pub returns-in-Some : goal.returns-in-Some
-returns-in-Some t c =
+pub returns-in-Some-clause-builds : goal.returns-in-Some-clause-builds
+returns-in-Some-clause-builds t c =
     let d = c.args.self.now in
-    record { extends = extends_none d.inputs d.len d.rows.now; builds = settled_built d.inputs d.len d.rows.now d.heads d.sound c.args.op c.args.f c.args.g c.requires.left c.requires.right c.in-Some.h c.in-Some.ensures }
+    settled_built d.inputs d.len d.rows.now d.heads d.sound c.args.op c.args.f c.args.g c.requires.left c.requires.right c.in-Some.h c.in-Some.ensures
 
-pub returns-in_err-low : goal.returns-in_err-low
-returns-in_err-low t c =
+pub returns-in_err-low-clause-builds : goal.returns-in_err-low-clause-builds
+returns-in_err-low-clause-builds t c =
     let d = c.args.self.now in
     let f = c.parts-f_low.result in
     let g = c.parts-g_low.result in
@@ -19,12 +18,9 @@ returns-in_err-low t c =
     let d₁ = c.join_down.new.self in
     let y = c.in_err-low.ensures in
     let e = c.in_err-low.field-0.0 in
-    record {
-      extends = y.extends;
-      builds = subst (λ z. BuildsOf d.inputs d.len d.rows.now (joined c.args.op (function_of d c.args.f) (function_of d c.args.g)) z c.from_residual.result d₁.len d₁.rows.now) v
-          (builds_exit d.inputs d.len d.rows.now (joined c.args.op (function_of d c.args.f) (function_of d c.args.g)) c.min-v.result c.from_residual.result d₁.len d₁.rows.now e c.from_residual.ensures.1
-          (low_refused d.inputs d.len d.rows.now d.heads d.sound c.args.op c.args.f c.args.g c.min-v.result f.0 f.1 g.0 g.1 c.parts-f_low.ensures c.parts-g_low.ensures (min (top_of d f.0) (top_of d g.0)) d₁.len d₁.rows.now e y.builds));
-    }
+    subst (λ z. BuildsOf d.inputs d.len d.rows.now (joined c.args.op (function_of d c.args.f) (function_of d c.args.g)) z c.from_residual.result d₁.len d₁.rows.now) v
+    (builds_exit d.inputs d.len d.rows.now (joined c.args.op (function_of d c.args.f) (function_of d c.args.g)) c.min-v.result c.from_residual.result d₁.len d₁.rows.now e c.from_residual.ensures.1
+    (low_refused d.inputs d.len d.rows.now d.heads d.sound c.args.op c.args.f c.args.g c.min-v.result f.0 f.1 g.0 g.1 c.parts-f_low.ensures c.parts-g_low.ensures (min (top_of d f.0) (top_of d g.0)) d₁.len d₁.rows.now e y.builds))
 
 pub join_down-requires-2 : goal.join_down-requires-2
 join_down-requires-2 t c =
@@ -38,8 +34,8 @@ join_down-requires-2 t c =
     let m = c.decreases in
     (omega arith, (left, right))
 
-pub returns-in_err-high : goal.returns-in_err-high
-returns-in_err-high t c =
+pub returns-in_err-high-clause-builds : goal.returns-in_err-high-clause-builds
+returns-in_err-high-clause-builds t c =
     let d = c.args.self.now in
     let f = c.parts-f_low.result in
     let g = c.parts-g_low.result in
@@ -49,12 +45,9 @@ returns-in_err-high t c =
     let x = c.in_ok-low.ensures in
     let y = c.in_err-high.ensures in
     let e = c.in_err-high.field-0.0 in
-    record {
-      extends = extends_then d.inputs d.len d.rows.now d₁.inputs d₁.len d₁.rows.now d₂.inputs d₂.len d₂.rows.now x.extends y.extends;
-      builds = subst (λ z. BuildsOf d.inputs d.len d.rows.now (joined c.args.op (function_of d c.args.f) (function_of d c.args.g)) z c.from_residual-in_err-high.result d₂.len d₂.rows.now) v
-          (builds_exit d.inputs d.len d.rows.now (joined c.args.op (function_of d c.args.f) (function_of d c.args.g)) c.min-v.result c.from_residual-in_err-high.result d₂.len d₂.rows.now e c.from_residual-in_err-high.ensures.1
-          (high_exit d.inputs d.len d.rows.now d.heads d.sound c.args.op c.args.f c.args.g c.min-v.result f.0 f.1 g.0 g.1 c.parts-f_low.ensures c.parts-g_low.ensures d₁.inputs d₁.len d₁.rows.now x.extends x.builds.0 d₂.len d₂.rows.now e y.builds));
-    }
+    subst (λ z. BuildsOf d.inputs d.len d.rows.now (joined c.args.op (function_of d c.args.f) (function_of d c.args.g)) z c.from_residual-in_err-high.result d₂.len d₂.rows.now) v
+    (builds_exit d.inputs d.len d.rows.now (joined c.args.op (function_of d c.args.f) (function_of d c.args.g)) c.min-v.result c.from_residual-in_err-high.result d₂.len d₂.rows.now e c.from_residual-in_err-high.ensures.1
+    (high_exit d.inputs d.len d.rows.now d.heads d.sound c.args.op c.args.f c.args.g c.min-v.result f.0 f.1 g.0 g.1 c.parts-f_low.ensures c.parts-g_low.ensures d₁.inputs d₁.len d₁.rows.now x.extends x.builds.0 d₂.len d₂.rows.now e y.builds))
 
 pub node-requires : goal.node-requires
 node-requires t c =
@@ -67,8 +60,8 @@ node-requires t c =
     let y = c.in_ok-high.ensures in
     node_ready d.inputs d.len d.rows.now d.heads d.sound c.args.op c.args.f c.args.g c.min-v.result f.0 f.1 g.0 g.1 c.parts-f_low.ensures c.parts-g_low.ensures d₁.inputs d₁.len d₁.rows.now x.extends c.in_ok-low.low x.builds d₂.inputs d₂.len d₂.rows.now y.extends c.in_ok-high.high y.builds
 
-pub returns : goal.returns
-returns t c =
+pub returns-clause-builds : goal.returns-clause-builds
+returns-clause-builds t c =
     let d = c.args.self.now in
     let f = c.parts-f_low.result in
     let g = c.parts-g_low.result in
@@ -78,9 +71,5 @@ returns t c =
     let d₃ = c.node.new.self in
     let x = c.in_ok-low.ensures in
     let y = c.in_ok-high.ensures in
-    record {
-      extends = extends_then d.inputs d.len d.rows.now d₂.inputs d₂.len d₂.rows.now d₃.inputs d₃.len d₃.rows.now
-          (extends_then d.inputs d.len d.rows.now d₁.inputs d₁.len d₁.rows.now d₂.inputs d₂.len d₂.rows.now x.extends y.extends) c.node.ensures.extends;
-      builds = subst (λ z. BuildsOf d.inputs d.len d.rows.now (joined c.args.op (function_of d c.args.f) (function_of d c.args.g)) z c.node.result d₃.len d₃.rows.now) v
-          (whole_built d.inputs d.len d.rows.now d.heads d.sound c.args.op c.args.f c.args.g c.min-v.result f.0 f.1 g.0 g.1 c.parts-f_low.ensures c.parts-g_low.ensures d₁.inputs d₁.len d₁.rows.now x.extends c.in_ok-low.low x.builds d₂.inputs d₂.len d₂.rows.now y.extends c.in_ok-high.high y.builds c.node.result d₃.len d₃.rows.now c.node.ensures.builds);
-    }
+    subst (λ z. BuildsOf d.inputs d.len d.rows.now (joined c.args.op (function_of d c.args.f) (function_of d c.args.g)) z c.node.result d₃.len d₃.rows.now) v
+    (whole_built d.inputs d.len d.rows.now d.heads d.sound c.args.op c.args.f c.args.g c.min-v.result f.0 f.1 g.0 g.1 c.parts-f_low.ensures c.parts-g_low.ensures d₁.inputs d₁.len d₁.rows.now x.extends c.in_ok-low.low x.builds d₂.inputs d₂.len d₂.rows.now y.extends c.in_ok-high.high y.builds c.node.result d₃.len d₃.rows.now c.node.ensures.builds)

@@ -1,13 +1,7 @@
-use Rattle.std.proofs.Common.{get_or, None, sym, ◌∙◌, subst, arith, rules}
+use Rattle.std.proofs.Common.{sym, ◌∙◌, arith, rules}
 use Rattle.std.proofs.lemmas.Bool.{false≢true}
-use Rattle.diagram.proofs.Chaining.{Walk, walk_starts, walk_two, walk_below, walk_found, walk_on, walk_falls, walk_ends, node_itself}
+use Rattle.diagram.proofs.Chaining.{walk_two, walk_below, walk_found, walk_on, walk_falls, walk_ends, node_itself}
 use Rattle.diagram.proofs.diagram.Diagram.find.Goals as goal
-
-pub loop-link-init : goal.loop-link-init
-loop-link-init c =
-    let e = c.chain_of.ensures.0 in
-    subst (λ x. Walk c.args.self.now.len c.args.self.now.rows.now c.args.node (get_or c.args.self.now.heads x None)) (sym e)
-    (walk_starts c.args.self.now.len c.args.self.now.rows.now c.args.node c.args.self.now.heads c.args.self.now.sound.linked.chained (omega (arith, c.chain_of.ensures.1)))
 
 pub overflow_sub-row : goal.overflow_sub-row
 overflow_sub-row c = walk_two c.args.self.now.len c.args.self.now.rows.now c.args.node c.loop-link.link c.in-Some.h c.loop-link.invariant c.in-Some.is

@@ -1,25 +1,23 @@
-use Rattle.std.proofs.Common.{refl}
-use Rattle.diagram.proofs.Building.{extends_none, node_equal, node_found, node_full, node_appended}
+use Rattle.diagram.proofs.Building.{node_equal, node_found, node_full, node_appended}
 use Rattle.diagram.proofs.diagram.Diagram.node.Goals as goal
 
-pub returns-then-low-high : goal.returns-then-low-high
-returns-then-low-high c =
+pub returns-then-low-high-clause-builds : goal.returns-then-low-high-clause-builds
+returns-then-low-high-clause-builds c =
     let d = c.args.self.now in
-    record { extends = extends_none d.inputs d.len d.rows.now; refused = tt; builds = node_equal d.inputs d.len d.rows.now d.heads d.sound c.args.v c.args.low c.args.high c.requires c.if-low-high.true }
+    node_equal d.inputs d.len d.rows.now d.heads d.sound c.args.v c.args.low c.args.high c.requires c.if-low-high.true
 
-pub returns-in-Some : goal.returns-in-Some
-returns-in-Some c =
+pub returns-in-Some-clause-builds : goal.returns-in-Some-clause-builds
+returns-in-Some-clause-builds c =
     let d = c.args.self.now in
-    record { extends = extends_none d.inputs d.len d.rows.now; refused = tt; builds = node_found d.inputs d.len d.rows.now d.heads d.sound c.args.v c.args.low c.args.high c.requires c.in-Some.h c.in-Some.ensures }
+    node_found d.inputs d.len d.rows.now d.heads d.sound c.args.v c.args.low c.args.high c.requires c.in-Some.h c.in-Some.ensures
 
-pub returns-then-self : goal.returns-then-self
-returns-then-self c =
+pub returns-then-self-clause-builds : goal.returns-then-self-clause-builds
+returns-then-self-clause-builds c =
     let d = c.args.self.now in
-    record { extends = extends_none d.inputs d.len d.rows.now; refused = refl; builds = node_full d.inputs d.len d.rows.now d.heads d.sound c.args.v c.args.low c.args.high c.requires c.if-low-high.false c.in_default.ensures c.if-self.true }
+    node_full d.inputs d.len d.rows.now d.heads d.sound c.args.v c.args.low c.args.high c.requires c.if-low-high.false c.in_default.ensures c.if-self.true
 
-pub returns : goal.returns
-returns c =
+pub returns-clause-builds : goal.returns-clause-builds
+returns-clause-builds c =
     let d = c.args.self.now in
     let d' = c.append.new.self in
-    let (e, b) = node_appended d.inputs d.len d.rows.now d.heads d.sound c.args.v c.args.low c.args.high c.requires c.if-low-high.false c.in_default.ensures d'.inputs d'.len d'.rows.now c.append.ensures c.if-self.false in
-    record { extends = e; refused = tt; builds = b }
+    (node_appended d.inputs d.len d.rows.now d.heads d.sound c.args.v c.args.low c.args.high c.requires c.if-low-high.false c.in_default.ensures d'.inputs d'.len d'.rows.now c.append.ensures c.if-self.false).1
