@@ -20,10 +20,7 @@ use Rattle.diagram.proofs.Subfunctions.{keeps}
 use Rattle.diagram.proofs.Rows.{row_function, functions_kept, functions_length, functions_more, functions_none, functions_grown, at_row, top_kept}
 use Rattle.diagram.proofs.Canonical.{functions_differ, canonical, new_function, kept_held, fewer_reduced}
 
-pub extends_none : (n len : ℕ) (rows : List Row) → ExtendsOf n len rows n len rows
-extends_none n len rows = record { inputs_kept = refl; longer = omega arith; size_kept = refl; rows_kept = λ k l. refl }
-
-module _ (n len : ℕ) (rows : List Row) (heads : List (Option ℕ)) (s : SoundOf n len rows heads) where
+module _ {n len : ℕ} {rows : List Row} {heads : List (Option ℕ)} (s : SoundOf n len rows heads) where
   unfoldable pub good : Good (meaning_of n len rows)
   good =
       let (rest, e) = functions_grown n rows 0 len (omega arith) in
@@ -52,7 +49,7 @@ module _ (n len : ℕ) (rows : List Row) (heads : List (Option ℕ)) (s : SoundO
     r,
   )
 
-  module _ (v low high : ℕ) (w : LaterOf n len rows v low high) where
+  module _ {v low high : ℕ} (w : LaterOf n len rows v low high) where
     abbrev made : Node
     made = record { variable = v; low = low; high = high }
 
@@ -79,7 +76,7 @@ module _ (n len : ℕ) (rows : List Row) (heads : List (Option ℕ)) (s : SoundO
       pub node_full : length rows ≤ len → Overfull subfunctions (meaning_of n len rows) (node n v (at (functions n rows len) low) (at (functions n rows len) high) ∷ [])
       node_full l = overfull_new subfunctions (meaning_of n len rows) (node n v (at (functions n rows len) low) (at (functions n rows len) high)) good (keeps n) node_new (omega (arith, others_length))
 
-      module _ (rows' : List Row) (a : AppendedOf n len rows made n (len + 1) rows') where
+      module _ {rows' : List Row} (a : AppendedOf n len rows made n (len + 1) rows') where
         tops : (h : ℕ) → h < len + 2 → top n rows' h ≡ top n rows h
         tops h l = top_kept n rows rows' len h a.rows_kept l
 
@@ -160,14 +157,14 @@ module _ (n len : ℕ) (rows : List Row) (heads : List (Option ℕ)) (s : SoundO
         )
 
       -- the same for a store whose fields are known by what `append` leaves
-      pub node_appended : (n' len' : ℕ) (rows' : List Row) → AppendedOf n len rows made n' len' rows' → len < length rows → ExtendsOf n len rows n' len' rows' × BuildsOf n len rows (node n v (at (functions n rows len) low) (at (functions n rows len) high)) v (Ok (len' + 1)) len' rows'
-      node_appended n' len' rows' a room =
+      pub node_appended : {n' len' : ℕ} {rows' : List Row} → AppendedOf n len rows made n' len' rows' → len < length rows → ExtendsOf n len rows n' len' rows' × BuildsOf n len rows (node n v (at (functions n rows len) low) (at (functions n rows len) high)) v (Ok (len' + 1)) len' rows'
+      node_appended {n'} {len'} {rows'} a room =
           subst (λ y. AppendedOf n len rows made n' y rows' → ExtendsOf n len rows n' y rows' × BuildsOf n len rows (node n v (at (functions n rows len) low) (at (functions n rows len) high)) v (Ok (y + 1)) y rows') (sym a.one_more)
           (λ b. subst (λ x. AppendedOf n len rows made x (len + 1) rows' → ExtendsOf n len rows x (len + 1) rows' × BuildsOf n len rows (node n v (at (functions n rows len) low) (at (functions n rows len) high)) v (Ok (len + 1 + 1)) (len + 1) rows') (sym a.inputs_kept)
-          (λ d. (extends_more rows' d, built rows' d room)) b) a
+          (λ d. (extends_more d, built d room)) b) a
 
       -- the new row at the head of its chain b
-      module _ (room : len < length rows) (b : ℕ) (e : b ≡ chain made) (few : b < 1024) where
+      module _ (room : len < length rows) {b : ℕ} (e : b ≡ chain made) (few : b < 1024) where
         abbrev new_row : Row
         new_row = record { node = made; next = get_or heads b None }
 
@@ -191,15 +188,15 @@ module _ (n len : ℕ) (rows : List Row) (heads : List (Option ℕ)) (s : SoundO
         pub row_sound : SoundOf n (len + 1) (set rows len new_row) (set heads b (Some (len + 2)))
         row_sound =
             let size = length-set rows len new_row in
-            sound_more (set rows len new_row) row_appended (set heads b (Some (len + 2))) (record {
+            sound_more row_appended (set heads b (Some (len + 2))) (record {
               within = omega arith;
               bounded = omega (arith, s.linked.bounded);
               chained = subst (λ x. Chained (len + 1) (set rows len new_row) (set heads x (Some (len + 2)))) (sym e) (chained_more len rows heads new_row s.linked.chained room linked in_chain);
             })
 
 -- a store without its newest row, which was taken off the head of its chain b
-pub less_sound : (n len : ℕ) (rows : List Row) (heads : List (Option ℕ)) → SoundOf n len rows heads → 0 < len → (b : ℕ) → b ≡ chain (row rows (len - 1)).node → b < 1024 → SoundOf n (len - 1) rows (set heads b (row rows (len - 1)).next)
-less_sound n len rows heads s some b e few =
+pub less_sound : {n len b : ℕ} {rows : List Row} {heads : List (Option ℕ)} → SoundOf n len rows heads → 0 < len → b ≡ chain (row rows (len - 1)).node → b < 1024 → SoundOf n (len - 1) rows (set heads b (row rows (len - 1)).next)
+less_sound {n} {len} {b} {rows} {heads} s some e few =
     let k = len - 1 in
     let z : len ≡ suc k = omega arith in
     record {

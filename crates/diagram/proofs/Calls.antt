@@ -1,6 +1,8 @@
 -- What the calls of a diagram store answer and leave.
 use Rattle.std.proofs.Common.{◌≡◌, ℕ, zero, suc, ◌+◌, ◌-◌, ◌*◌, ◌%◌, ◌^◌, ◌<◌, ◌≤◌, Bool, true, false, cond, not, eqb, List, [], ◌∷◌, length, take, Ok, Err, Result, Option, sym, refl, ap, ◌∙◌, subst, zero-add, zero-mul, arith}
 use native.Mathlib.Nat.{div-eq_of_lt}
+use Rattle.std.specs.Result.{is_err}
+use Rattle.std.proofs.lemmas.Bool.{false≢true}
 use Rattle.stores.specs.declared.fault.StoreFault.{StoreFault}
 use Rattle.stores.specs.declared.fault.StoreFault.TheVariants.{Inputs, Places, Bounds}
 use Rattle.stores.specs.declared.operation.Operation.TheVariants.{Xor}
@@ -26,25 +28,26 @@ pub at_always : (n : ℕ) (rows : List Row) (len : ℕ) → at (functions n rows
 at_always n rows len = at_fewer n rows 0 len 1 (omega arith) (omega arith) ∙ ap (λ x. at x 1) (functions_none n rows)
 
 -- Without the rows that were put behind the others all is as it was.
-restored : (n len : ℕ) (rows : List Row) (n' len' : ℕ) (rows' : List Row) → ExtendsOf n len rows n' len' rows' → meaning_of n' len rows' ≡ meaning_of n len rows
-restored n len rows n' len' rows' e =
+restored : {n len : ℕ} {rows : List Row} {n' len' : ℕ} {rows' : List Row} → ExtendsOf n len rows n' len' rows' → meaning_of n' len rows' ≡ meaning_of n len rows
+restored {n} {len} {rows} {n'} {len'} {rows'} e =
     subst (λ x. meaning_of x len rows' ≡ meaning_of n len rows) (sym e.inputs_kept) (cc (e.size_kept, functions_kept n rows rows' len e.rows_kept))
 
 -- What was built is yielded, if nothing is left behind where it is refused.
-pub built_yields : (n len : ℕ) (rows : List Row) (f : Function) (v : ℕ) (r : Result ℕ StoreFault) (n' len' : ℕ) (rows' : List Row) → ExtendsOf n len rows n' len' rows' → ((e : StoreFault) → r ≡ Err e → len' ≡ len) → BuildsOf n len rows f v r len' rows' → Yields subfunctions (meaning_of n len rows) (Unit {0}) (f ∷ []) f r (meaning_of n' len' rows')
-built_yields n len rows f v (Ok h) n' len' rows' e back b =
+pub built_yields : {n len : ℕ} {rows : List Row} {n' len' : ℕ} {rows' : List Row} (f : Function) (v : ℕ) (r : Result ℕ StoreFault) → ExtendsOf n len rows n' len' rows' → ((e : StoreFault) → r ≡ Err e → len' ≡ len) → BuildsOf n len rows f v r len' rows' → Yields subfunctions (meaning_of n len rows) (Unit {0}) (f ∷ []) f r (meaning_of n' len' rows')
+built_yields {n} {len} {rows} {n'} {len'} {rows'} f v (Ok h) e back b =
     subst (λ x. Yields subfunctions (meaning_of n len rows) (Unit {0}) (f ∷ []) f (Ok h) (meaning_of x len' rows')) (sym e.inputs_kept) (tt, b.0, b.1)
-built_yields n len rows f v (Err Inputs) n' len' rows' e back b = b
-built_yields n len rows f v (Err Bounds) n' len' rows' e back b = absurd b
-built_yields n len rows f v (Err Places) n' len' rows' e back b =
-    (tt, b, ap (λ x. meaning_of n' x rows') (back Places refl) ∙ restored n len rows n' len' rows' e)
+built_yields f v (Err Inputs) e back b = b
+built_yields f v (Err Bounds) e back b = absurd b
+built_yields {n} {len} {rows} {n'} {len'} {rows'} f v (Err Places) e back b =
+    (tt, b, ap (λ x. meaning_of n' x rows') (back Places refl) ∙ restored e)
 
 -- The rows of a refused call are cut again.
-pub cut_yields : (n len : ℕ) (rows : List Row) (f : Function) (v : ℕ) (fault : StoreFault) (n₁ len₁ : ℕ) (rows₁ : List Row) (n₂ len₂ : ℕ) (rows₂ : List Row) → ExtendsOf n len rows n₁ len₁ rows₁ → CutOf n₁ rows₁ len n₂ len₂ rows₂ → BuildsOf n len rows f v (Err fault) len₁ rows₁ → Yields subfunctions (meaning_of n len rows) (Unit {0}) (f ∷ []) f (Err fault) (meaning_of n₂ len₂ rows₂)
-cut_yields n len rows f v Inputs n₁ len₁ rows₁ n₂ len₂ rows₂ e c b = b
-cut_yields n len rows f v Bounds n₁ len₁ rows₁ n₂ len₂ rows₂ e c b = absurd b
-cut_yields n len rows f v Places n₁ len₁ rows₁ n₂ len₂ rows₂ e c b =
-    (tt, b, ap (λ x. meaning_of x len₂ rows₂) c.inputs_kept ∙ (ap (λ x. meaning_of n₁ x rows₂) c.len_is ∙ (ap (λ x. meaning_of n₁ len x) c.rows_kept ∙ restored n len rows n₁ len₁ rows₁ e)))
+pub cut_yields : {n len : ℕ} {rows : List Row} {n₁ len₁ : ℕ} {rows₁ : List Row} {n₂ len₂ : ℕ} {rows₂ : List Row} (f : Function) (v : ℕ) (r : Result ℕ StoreFault) → is_err r ≡ true → ExtendsOf n len rows n₁ len₁ rows₁ → CutOf n₁ rows₁ len n₂ len₂ rows₂ → BuildsOf n len rows f v r len₁ rows₁ → Yields subfunctions (meaning_of n len rows) (Unit {0}) (f ∷ []) f r (meaning_of n₂ len₂ rows₂)
+cut_yields f v (Ok h) t e c b = absurd (false≢true t)
+cut_yields f v (Err Inputs) t e c b = b
+cut_yields f v (Err Bounds) t e c b = absurd b
+cut_yields {n} {len} {rows} {n₁} {len₁} {rows₁} {n₂} {len₂} {rows₂} f v (Err Places) t e c b =
+    (tt, b, ap (λ x. meaning_of x len₂ rows₂) c.inputs_kept ∙ (ap (λ x. meaning_of n₁ x rows₂) c.len_is ∙ (ap (λ x. meaning_of n₁ len x) c.rows_kept ∙ restored e)))
 
 pub cut_meaning : (n len : ℕ) (rows : List Row) (m n' len' : ℕ) (rows' : List Row) → 2 ≤ m → m ≤ len + 2 → CutOf n rows (m - 2) n' len' rows' → meaning_of n' len' rows' ≡ cut (meaning_of n len rows) m
 cut_meaning n len rows m n' len' rows' two top c =
@@ -52,7 +55,7 @@ cut_meaning n len rows m n' len' rows' two top c =
     let e : functions n rows (m - 2) ≡ take m (functions n rows len) = sym (functions_take n rows (m - 2) len (omega arith)) ∙ ap (λ x. take x (functions n rows len)) (sym i) in
     ap (λ x. meaning_of x len' rows') c.inputs_kept ∙ (ap (λ x. meaning_of n x rows') c.len_is ∙ (ap (λ x. meaning_of n (m - 2) x) c.rows_kept ∙ cc e))
 
-module _ (n len : ℕ) (rows : List Row) (heads : List (Option ℕ)) (s : SoundOf n len rows heads) where
+module _ {n len : ℕ} {rows : List Row} {heads : List (Option ℕ)} (s : SoundOf n len rows heads) where
   pub held : (h : ℕ) → h < len + 2 → h < length (functions n rows len)
   held h l = omega (arith, functions_length n rows len)
 
@@ -112,5 +115,5 @@ module _ (n len : ℕ) (rows : List Row) (heads : List (Option ℕ)) (s : SoundO
       let part = at F (cond b high low) in
       let (inside, rises, same) = part_held n rows len s.reduced.ordered 0 low high w.low_held w.high_held w.low_later w.high_later b in
       let fixed_part : Same n (fixed n (at F f) b) part = λ p q. fixed_cofactor (at F f) b p q ∙ (cofactor_same n 0 b (at F f) (node n 0 (at F low) (at F high)) whole p q ∙ same p q) in
-      let y = stays n len rows heads s (cond b high low) (fixed n (at F f) b) 0 inside (Same_sym n (fixed n (at F f) b) part fixed_part) (omega arith) in
+      let y = stays s (cond b high low) (fixed n (at F f) b) 0 inside (Same_sym n (fixed n (at F f) b) part fixed_part) (omega arith) in
       (held f l, y.0, y.1)

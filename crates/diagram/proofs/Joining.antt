@@ -18,24 +18,29 @@ use Rattle.diagram.proofs.Rows.{functions_kept, functions_none, functions_length
 use Rattle.diagram.proofs.Canonical.{free_at}
 use Rattle.diagram.proofs.Building.{stays}
 
-pub extends_then : (n len : ℕ) (rows : List Row) (n' len' : ℕ) (rows' : List Row) (n'' len'' : ℕ) (rows'' : List Row) → ExtendsOf n len rows n' len' rows' → ExtendsOf n' len' rows' n'' len'' rows'' → ExtendsOf n len rows n'' len'' rows''
-extends_then n len rows n' len' rows' n'' len'' rows'' a b =
+pub extends_then : {n len : ℕ} {rows : List Row} {n' len' : ℕ} {rows' : List Row} {n'' len'' : ℕ} {rows'' : List Row} → ExtendsOf n len rows n' len' rows' → ExtendsOf n' len' rows' n'' len'' rows'' → ExtendsOf n len rows n'' len'' rows''
+extends_then a b =
     let l = a.longer in
     let m = b.longer in
     record { inputs_kept = b.inputs_kept ∙ a.inputs_kept; longer = omega arith; size_kept = b.size_kept ∙ a.size_kept; rows_kept = λ k q. b.rows_kept k (omega arith) ∙ a.rows_kept k q }
 
 -- A handle has its function and its first variable while the rows grow.
-pub function_kept : (n len : ℕ) (rows : List Row) (n' len' : ℕ) (rows' : List Row) → ExtendsOf n len rows n' len' rows' → (h : ℕ) → h < len + 2 → at (functions n' rows' len') h ≡ at (functions n rows len) h
-function_kept n len rows n' len' rows' e h l =
+pub function_kept : {n len : ℕ} {rows : List Row} {n' len' : ℕ} {rows' : List Row} → ExtendsOf n len rows n' len' rows' → (h : ℕ) → h < len + 2 → at (functions n' rows' len') h ≡ at (functions n rows len) h
+function_kept {n} {len} {rows} {n'} {len'} {rows'} e h l =
     ap (λ x. at (functions x rows' len') h) e.inputs_kept ∙ (at_fewer n rows' len len' h e.longer l ∙ ap (λ x. at x h) (functions_kept n rows rows' len e.rows_kept))
 
-pub top_stays : (n len : ℕ) (rows : List Row) (n' len' : ℕ) (rows' : List Row) → ExtendsOf n len rows n' len' rows' → (h : ℕ) → h < len + 2 → top n' rows' h ≡ top n rows h
-top_stays n len rows n' len' rows' e h l = ap (λ x. top x rows' h) e.inputs_kept ∙ top_kept n rows rows' len h e.rows_kept l
+pub top_stays : {n len : ℕ} {rows : List Row} {n' len' : ℕ} {rows' : List Row} → ExtendsOf n len rows n' len' rows' → (h : ℕ) → h < len + 2 → top n' rows' h ≡ top n rows h
+top_stays {n} {len} {rows} {n'} {len'} {rows'} e h l = ap (λ x. top x rows' h) e.inputs_kept ∙ top_kept n rows rows' len h e.rows_kept l
 
--- The exit of a `?` returns the fault that came.
-pub builds_exit : (n len : ℕ) (rows : List Row) (f : Function) (v : ℕ) (r : Result ℕ StoreFault) (len' : ℕ) (rows' : List Row) (e : StoreFault) → IsErrAnd r (λ y. y ≡ e) → BuildsOf n len rows f v (Err e) len' rows' → BuildsOf n len rows f v r len' rows'
-builds_exit n len rows f v (Ok h) len' rows' e b y = absurd b
-builds_exit n len rows f v (Err d) len' rows' e b y = subst (λ x. BuildsOf n len rows f v (Err x) len' rows') (sym b) y
+-- The exit of a `?` returns the fault that came, whatever variable was asked for.
+builds_exit : (n len : ℕ) (rows : List Row) (f : Function) (v w : ℕ) (r : Result ℕ StoreFault) (len' : ℕ) (rows' : List Row) (e : StoreFault) → IsErrAnd r (λ y. y ≡ e) → BuildsOf n len rows f v (Err e) len' rows' → BuildsOf n len rows f w r len' rows'
+builds_exit n len rows f v w (Ok h) len' rows' e b y = absurd b
+builds_exit n len rows f v w (Err d) len' rows' e b y = subst (λ x. BuildsOf n len rows f w (Err x) len' rows') (sym b) (told e y)
+  where
+    told : (e : StoreFault) → BuildsOf n len rows f v (Err e) len' rows' → BuildsOf n len rows f w (Err e) len' rows'
+    told Inputs y = y
+    told Bounds y = y
+    told Places y = y
 
 -- What is kept for all of fs is kept for all of gs: so is what is held then.
 absorbed : (n : ℕ) (L fs gs : List Function) → ((h : Function) → has n h (kept subfunctions n fs) ≡ true → has n h (kept subfunctions n gs) ≡ true) → (h : Function) → has n h (L ++ kept subfunctions n fs) ≡ true → has n h (L ++ kept subfunctions n gs) ≡ true
@@ -71,7 +76,7 @@ module _ (n : ℕ) (r : Function) where
       ]
 
 -- one that needs no row
-module _ (n len : ℕ) (rows : List Row) (heads : List (Option ℕ)) (s : SoundOf n len rows heads) (op : Operation) (f g : ℕ) (held_f : f < len + 2) (held_g : g < len + 2) where
+module _ {n len : ℕ} {rows : List Row} {heads : List (Option ℕ)} (s : SoundOf n len rows heads) (op : Operation) (f g : ℕ) (held_f : f < len + 2) (held_g : g < len + 2) where
   settled_held : (h : ℕ) → (h < 2) ⊎ ((h ≡ f) ⊎ (h ≡ g)) → h < len + 2
   settled_held h c = elim c [ inl l ↦ omega arith | inr d ↦ elim d [ inl e ↦ omega arith | inr e ↦ omega arith ] ]
 
@@ -93,10 +98,10 @@ module _ (n len : ℕ) (rows : List Row) (heads : List (Option ℕ)) (s : SoundO
       let F = functions n rows len in
       let zeros : (p : ℕ) → at F 0 p ≡ false = λ p. ap (λ x. x p) (at_fewer n rows 0 len 0 (omega arith) (omega arith) ∙ ap (λ x. at x 0) (functions_none n rows)) in
       let ones : (p : ℕ) → at F 1 p ≡ true = λ p. ap (λ x. x p) (at_fewer n rows 0 len 1 (omega arith) (omega arith) ∙ ap (λ x. at x 1) (functions_none n rows)) in
-      stays n len rows heads s h (joined op (at F f) (at F g)) (min (top n rows f) (top n rows g)) (settled_held h c) (λ p q. bits (λ i. at F i p) (zeros p) (ones p)) (settled_top h c)
+      stays s h (joined op (at F f) (at F g)) (min (top n rows f) (top n rows g)) (settled_held h c) (λ p q. bits (λ i. at F i p) (zeros p) (ones p)) (settled_top h c)
 
 -- one by parts: f is f₀ and f₁, and g is g₀ and g₁, where variable v is 0 and where it is 1
-module _ (n len : ℕ) (rows : List Row) (heads : List (Option ℕ)) (s : SoundOf n len rows heads) (op : Operation) (f g v f₀ f₁ g₀ g₁ : ℕ) (pf : LaterOf n len rows v f₀ f₁ × Same n (at (functions n rows len) f) (node n v (at (functions n rows len) f₀) (at (functions n rows len) f₁))) (pg : LaterOf n len rows v g₀ g₁ × Same n (at (functions n rows len) g) (node n v (at (functions n rows len) g₀) (at (functions n rows len) g₁))) where
+module _ {n len : ℕ} {rows : List Row} {heads : List (Option ℕ)} (s : SoundOf n len rows heads) (op : Operation) (f g : ℕ) {v f₀ f₁ g₀ g₁ : ℕ} (pf : LaterOf n len rows v f₀ f₁ × Same n (at (functions n rows len) f) (node n v (at (functions n rows len) f₀) (at (functions n rows len) f₁))) (pg : LaterOf n len rows v g₀ g₁ × Same n (at (functions n rows len) g) (node n v (at (functions n rows len) g₀) (at (functions n rows len) g₁))) where
   abbrev whole : Function
   whole = joined op (at (functions n rows len) f) (at (functions n rows len) g)
 
@@ -128,14 +133,14 @@ module _ (n len : ℕ) (rows : List Row) (heads : List (Option ℕ)) (s : SoundO
   whole_within h e = e
 
   -- the call for the high parts, once rows were put behind the others
-  module _ (n₁ len₁ : ℕ) (rows₁ : List Row) (e : ExtendsOf n len rows n₁ len₁ rows₁) where
+  module _ {n₁ len₁ : ℕ} {rows₁ : List Row} (e : ExtendsOf n len rows n₁ len₁ rows₁) where
     high_held : (f₁ < len₁ + 2) × (g₁ < len₁ + 2)
     high_held = let l = e.longer in let a = pf.0.high_held in let b = pg.0.high_held in (omega arith, omega arith)
 
     high_falls : n₁ + 1 - min (top n₁ rows₁ f₁) (top n₁ rows₁ g₁) < n + 1 - v
     high_falls =
-        let a = top_stays n len rows n₁ len₁ rows₁ e f₁ pf.0.high_held in
-        let b = top_stays n len rows n₁ len₁ rows₁ e g₁ pg.0.high_held in
+        let a = top_stays e f₁ pf.0.high_held in
+        let b = top_stays e g₁ pg.0.high_held in
         let i = e.inputs_kept in
         let x = pf.0.high_later in
         let y = pg.0.high_later in
@@ -145,10 +150,10 @@ module _ (n len : ℕ) (rows : List Row) (heads : List (Option ℕ)) (s : SoundO
     high_call : (r : Result ℕ StoreFault) (len₂ : ℕ) (rows₂ : List Row) → BuildsOf n₁ len₁ rows₁ (joined op (at (functions n₁ rows₁ len₁) f₁) (at (functions n₁ rows₁ len₁) g₁)) (min (top n₁ rows₁ f₁) (top n₁ rows₁ g₁)) r len₂ rows₂ → BuildsOf n len₁ rows₁ high_part (min (top n rows f₁) (top n rows g₁)) r len₂ rows₂
     high_call r len₂ rows₂ b =
         let i = e.inputs_kept in
-        let x = function_kept n len rows n₁ len₁ rows₁ e f₁ pf.0.high_held in
-        let y = function_kept n len rows n₁ len₁ rows₁ e g₁ pg.0.high_held in
-        let t = top_stays n len rows n₁ len₁ rows₁ e f₁ pf.0.high_held in
-        let u = top_stays n len rows n₁ len₁ rows₁ e g₁ pg.0.high_held in
+        let x = function_kept e f₁ pf.0.high_held in
+        let y = function_kept e g₁ pg.0.high_held in
+        let t = top_stays e f₁ pf.0.high_held in
+        let u = top_stays e g₁ pg.0.high_held in
         let fs : joined op (at (functions n₁ rows₁ len₁) f₁) (at (functions n₁ rows₁ len₁) g₁) ≡ high_part = ap (λ z. joined op z (at (functions n₁ rows₁ len₁) g₁)) x ∙ ap (λ z. joined op (at (functions n rows len) f₁) z) y in
         let ts : min (top n₁ rows₁ f₁) (top n₁ rows₁ g₁) ≡ min (top n rows f₁) (top n rows g₁) = ap (λ z. min z (top n₁ rows₁ g₁)) t ∙ ap (λ z. min (top n rows f₁) z) u in
         subst (λ z. BuildsOf z len₁ rows₁ high_part (min (top n rows f₁) (top n rows g₁)) r len₂ rows₂) i
@@ -156,7 +161,7 @@ module _ (n len : ℕ) (rows : List Row) (heads : List (Option ℕ)) (s : SoundO
         (subst (λ z. BuildsOf n₁ len₁ rows₁ (joined op (at (functions n₁ rows₁ len₁) f₁) (at (functions n₁ rows₁ len₁) g₁)) z r len₂ rows₂) ts b))
 
     -- the call for the node, once more of them were
-    module _ (n₂ len₂ : ℕ) (rows₂ : List Row) (d : ExtendsOf n₁ len₁ rows₁ n₂ len₂ rows₂) (low high : ℕ) (low_stands : Stands (meaning_of n len₁ rows₁) low low_part) (high_stands : Stands (meaning_of n len₂ rows₂) high high_part) where
+    module _ {n₂ len₂ : ℕ} {rows₂ : List Row} (d : ExtendsOf n₁ len₁ rows₁ n₂ len₂ rows₂) (low high : ℕ) (low_stands : Stands (meaning_of n len₁ rows₁) low low_part) (high_stands : Stands (meaning_of n len₂ rows₂) high high_part) where
       node_later : min (top n rows f₀) (top n rows g₀) ≤ top n rows₁ low → min (top n rows f₁) (top n rows g₁) ≤ top n rows₂ high → LaterOf n₂ len₂ rows₂ v low high
       node_later low_rises high_rises =
           let i : n₂ ≡ n = d.inputs_kept ∙ e.inputs_kept in
@@ -173,12 +178,15 @@ module _ (n len : ℕ) (rows : List Row) (heads : List (Option ℕ)) (s : SoundO
       node_call : (r : Result ℕ StoreFault) (len₃ : ℕ) (rows₃ : List Row) → BuildsOf n₂ len₂ rows₂ (node n₂ v (at (functions n₂ rows₂ len₂) low) (at (functions n₂ rows₂ len₂) high)) v r len₃ rows₃ → BuildsOf n len₂ rows₂ (node n v (at (functions n rows₂ len₂) low) (at (functions n rows₂ len₂) high)) v r len₃ rows₃
       node_call r len₃ rows₃ b = subst (λ z. BuildsOf z len₂ rows₂ (node z v (at (functions z rows₂ len₂) low) (at (functions z rows₂ len₂) high)) v r len₃ rows₃) (d.inputs_kept ∙ e.inputs_kept) b
 
-  pub low_refused : (w len' : ℕ) (rows' : List Row) (e : StoreFault) → BuildsOf n len rows low_part w (Err e) len' rows' → BuildsOf n len rows whole v (Err e) len' rows'
+  low_refused : (w len' : ℕ) (rows' : List Row) (e : StoreFault) → BuildsOf n len rows low_part w (Err e) len' rows' → BuildsOf n len rows whole v (Err e) len' rows'
   unfolding Within
   low_refused w len' rows' Inputs y = y
   low_refused w len' rows' Bounds y = y
   low_refused w len' rows' Places y =
       overfull_as subfunctions (meaning_of n len rows) (low_part ∷ []) (whole ∷ []) (absorbed n (functions n rows len) (low_part ∷ []) (whole ∷ []) (within_more n whole low_part [] low_within (within_none n whole))) y
+
+  pub low_exit : (u w len' : ℕ) (rows' : List Row) (e : StoreFault) (r : Result ℕ StoreFault) → IsErrAnd r (λ y. y ≡ e) → BuildsOf n len rows low_part u (Err e) len' rows' → BuildsOf n len rows whole w r len' rows'
+  low_exit u w len' rows' e r is y = builds_exit n len rows whole v w r len' rows' e is (low_refused u len' rows' e y)
 
   module _ (len₁ : ℕ) (rows₁ : List Row) (first : Gained subfunctions (meaning_of n len rows) (low_part ∷ []) (meaning_of n len₁ rows₁)) where
     high_refused : (w len' : ℕ) (rows' : List Row) (e : StoreFault) → BuildsOf n len₁ rows₁ high_part w (Err e) len' rows' → BuildsOf n len rows whole v (Err e) len' rows'
@@ -225,24 +233,25 @@ module _ (n len : ℕ) (rows : List Row) (heads : List (Option ℕ)) (s : SoundO
           (overfull_same subfunctions (meaning_of n len₂ rows₂) (joint ∷ []) (whole ∷ []) (keeps n) (joint_whole, tt) y))
 
   -- the steps of the recursion, each by what the calls before it left
-  module _ (n₁ len₁ : ℕ) (rows₁ : List Row) (e : ExtendsOf n len rows n₁ len₁ rows₁) where
+  module _ {n₁ len₁ : ℕ} {rows₁ : List Row} (e : ExtendsOf n len rows n₁ len₁ rows₁) where
     -- what the call for the high parts answered, in a store that has grown
     abbrev High : Result ℕ StoreFault → ℕ → List Row → Type 0
     High r len₂ rows₂ = BuildsOf n₁ len₁ rows₁ (joined op (at (functions n₁ rows₁ len₁) f₁) (at (functions n₁ rows₁ len₁) g₁)) (min (top n₁ rows₁ f₁) (top n₁ rows₁ g₁)) r len₂ rows₂
 
     pub high_ready : (n₁ + 1 - min (top n₁ rows₁ f₁) (top n₁ rows₁ g₁) < n + 1 - v) × (f₁ < len₁ + 2) × (g₁ < len₁ + 2)
-    high_ready = (high_falls n₁ len₁ rows₁ e, (high_held n₁ len₁ rows₁ e).0, (high_held n₁ len₁ rows₁ e).1)
+    high_ready = (high_falls e, (high_held e).0, (high_held e).1)
 
-    pub high_exit : Gained subfunctions (meaning_of n len rows) (low_part ∷ []) (meaning_of n len₁ rows₁) → (len₂ : ℕ) (rows₂ : List Row) (fault : StoreFault) → High (Err fault) len₂ rows₂ → BuildsOf n len rows whole v (Err fault) len₂ rows₂
-    high_exit first len₂ rows₂ fault b = high_refused len₁ rows₁ first (min (top n rows f₁) (top n rows g₁)) len₂ rows₂ fault (high_call n₁ len₁ rows₁ e (Err fault) len₂ rows₂ b)
+    pub high_exit : Gained subfunctions (meaning_of n len rows) (low_part ∷ []) (meaning_of n len₁ rows₁) → (w len₂ : ℕ) (rows₂ : List Row) (fault : StoreFault) (r : Result ℕ StoreFault) → IsErrAnd r (λ y. y ≡ fault) → High (Err fault) len₂ rows₂ → BuildsOf n len rows whole w r len₂ rows₂
+    high_exit first w len₂ rows₂ fault r is b =
+        builds_exit n len rows whole v w r len₂ rows₂ fault is (high_refused len₁ rows₁ first (min (top n rows f₁) (top n rows g₁)) len₂ rows₂ fault (high_call e (Err fault) len₂ rows₂ b))
 
-    module _ (low : ℕ) (low_made : BuildsOf n len rows low_part (min (top n rows f₀) (top n rows g₀)) (Ok low) len₁ rows₁) (n₂ len₂ : ℕ) (rows₂ : List Row) (d : ExtendsOf n₁ len₁ rows₁ n₂ len₂ rows₂) (high : ℕ) (high_made : High (Ok high) len₂ rows₂) where
+    module _ (low : ℕ) (low_made : BuildsOf n len rows low_part (min (top n rows f₀) (top n rows g₀)) (Ok low) len₁ rows₁) {n₂ len₂ : ℕ} {rows₂ : List Row} (d : ExtendsOf n₁ len₁ rows₁ n₂ len₂ rows₂) (high : ℕ) (high_made : High (Ok high) len₂ rows₂) where
       pub node_ready : LaterOf n₂ len₂ rows₂ v low high
       node_ready =
-          let y = high_call n₁ len₁ rows₁ e (Ok high) len₂ rows₂ high_made in
-          node_later n₁ len₁ rows₁ e n₂ len₂ rows₂ d low high low_made.1 y.1 low_made.2 y.2
+          let y = high_call e (Ok high) len₂ rows₂ high_made in
+          node_later e d low high low_made.1 y.1 low_made.2 y.2
 
-      pub whole_built : (r : Result ℕ StoreFault) (len₃ : ℕ) (rows₃ : List Row) → BuildsOf n₂ len₂ rows₂ (node n₂ v (at (functions n₂ rows₂ len₂) low) (at (functions n₂ rows₂ len₂) high)) v r len₃ rows₃ → BuildsOf n len rows whole v r len₃ rows₃
-      whole_built r len₃ rows₃ b =
-          let y = high_call n₁ len₁ rows₁ e (Ok high) len₂ rows₂ high_made in
-          joint_built len₁ rows₁ low_made.0 len₂ rows₂ y.0 low high low_made.1 y.1 r len₃ rows₃ (node_call n₁ len₁ rows₁ e n₂ len₂ rows₂ d low high low_made.1 y.1 r len₃ rows₃ b)
+      pub whole_built : (w : ℕ) → v ≡ w → (r : Result ℕ StoreFault) (len₃ : ℕ) (rows₃ : List Row) → BuildsOf n₂ len₂ rows₂ (node n₂ v (at (functions n₂ rows₂ len₂) low) (at (functions n₂ rows₂ len₂) high)) v r len₃ rows₃ → BuildsOf n len rows whole w r len₃ rows₃
+      whole_built w is r len₃ rows₃ b =
+          let y = high_call e (Ok high) len₂ rows₂ high_made in
+          subst (λ x. BuildsOf n len rows whole x r len₃ rows₃) is (joint_built len₁ rows₁ low_made.0 len₂ rows₂ y.0 low high low_made.1 y.1 r len₃ rows₃ (node_call e d low high low_made.1 y.1 r len₃ rows₃ b))

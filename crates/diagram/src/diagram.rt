@@ -13,6 +13,7 @@ pub struct Diagram<'a> {
     pub(crate) rows: &'a mut [Row],
     // the handle of each chain's newest row
     pub(crate) heads: [Option<u16>; 1024],
+    // how many rows are in use, beside them since their memory is lent
     pub(crate) len: usize,
     pub(crate) inputs: usize,
     ghost sound: { SoundOf inputs len rows.now heads },
@@ -48,6 +49,7 @@ impl<'a> Diagram<'a> {
     }
 
     // The variable of a handle's row, or the number after all variables where it is a constant's.
+    // The calls of a store take handles as plain numbers, so each method asks that its handles are held.
     pub(crate) fn top(&self, h: usize) -> usize
         requires { Held self.now h }
         ensures { result ≡ top_of self.now h }

@@ -60,12 +60,10 @@ impl Diagram<'_> {
         ensures { Yields subfunctions (diagram_meaning self.old) (Unit {0}) (joined op (function_of self.old f) (function_of self.old g) ∷ []) (joined op (function_of self.old f) (function_of self.old g)) result (diagram_meaning self.new) }
     {
         let before = self.len;
-        match self.join_down(op, f, g) {
-            Ok(h) => Ok(h),
-            Err(fault) => {
-                self.cut(before);
-                Err(fault)
-            }
+        let answer = self.join_down(op, f, g);
+        if answer.is_err() {
+            self.cut(before);
         }
+        answer
     }
 }

@@ -6,14 +6,14 @@ use Rattle.diagram.proofs.diagram.Diagram.bit.Goals as goal
 pub loop-h-preserved-then-set : goal.loop-h-preserved-then-set
 loop-h-preserved-then-set c =
     let d = c.args.self.now in
-    let (held, same) = down d.inputs d.len d.rows.now d.heads d.sound c.loop-h.h c.args.p true c.loop-h.invariant.0 c.loop-h-test.true (eq-eqb _ 1 c.if-set.true) in
+    let (held, same) = down d.sound c.loop-h.h c.args.p true c.loop-h.invariant.0 c.loop-h-test.true (eq-eqb _ 1 c.if-set.true) in
     (held, same ∙ c.loop-h.invariant.1)
 
 pub loop-h-preserved : goal.loop-h-preserved
 loop-h-preserved c =
     let d = c.args.self.now in
-    let (held, same) = down d.inputs d.len d.rows.now d.heads d.sound c.loop-h.h c.args.p false c.loop-h.invariant.0 c.loop-h-test.true (ne_eqb _ 1 c.if-set.false) in
+    let (held, same) = down d.sound c.loop-h.h c.args.p false c.loop-h.invariant.0 c.loop-h-test.true (ne_eqb _ 1 c.if-set.false) in
     (held, same ∙ c.loop-h.invariant.1)
 
 pub returns : goal.returns
-returns c = let d = c.args.self.now in down_constant d.inputs d.len d.rows.now d.heads d.sound c.loop-h.h c.args.p (omega (arith, c.loop-h-test.false)) ∙ c.loop-h.invariant.1
+returns c = let d = c.args.self.now in down_constant d.sound c.loop-h.h c.args.p (omega (arith, c.loop-h-test.false)) ∙ c.loop-h.invariant.1

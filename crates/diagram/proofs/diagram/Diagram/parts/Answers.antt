@@ -4,4 +4,4 @@ use Rattle.diagram.proofs.diagram.Diagram.parts.Goals as goal
 pub returns-then-node-v : goal.returns-then-node-v
 returns-then-node-v c =
     let d = c.args.self.now in
-    row_parts d.inputs d.len d.rows.now d.heads d.sound c.args.h c.args.v c.requires.held c.if-h-lt2.false c.requires.known c.if-node-v.true
+    row_parts d.sound c.args.h c.args.v c.requires.held c.if-h-lt2.false c.requires.known c.if-node-v.true

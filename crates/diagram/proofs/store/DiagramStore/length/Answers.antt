@@ -6,4 +6,4 @@ use Rattle.diagram.proofs.store.DiagramStore.length.Goals as goal
 pub returns : goal.returns
 returns c =
     let d = c.args.self.now in
-    record { length = sym (functions_length d.inputs d.rows.now d.len); lawful = lawful d.inputs d.len d.rows.now d.heads d.sound }
+    record { length = sym (functions_length d.inputs d.rows.now d.len); lawful = lawful d.sound }
