@@ -176,12 +176,12 @@ module _ {n len : ℕ} {rows : List Row} {heads : List (Option ℕ)} (s : SoundO
 
         pub row_appended : AppendedOf n len rows made n (len + 1) (set rows len new_row)
         row_appended =
-            let here = set_here len rows heads new_row s.linked.chained room linked in_chain in
+            let here = set_here new_row s.linked.chained room linked in_chain in
             record {
               inputs_kept = refl;
               one_more = refl;
               size_kept = length-set rows len new_row;
-              rows_kept = set_before len rows heads new_row s.linked.chained room linked in_chain;
+              rows_kept = set_before new_row s.linked.chained room linked in_chain;
               row_new = ap (λ x. x.node) here;
             }
 
@@ -191,7 +191,7 @@ module _ {n len : ℕ} {rows : List Row} {heads : List (Option ℕ)} (s : SoundO
             sound_more row_appended (set heads b (Some (len + 2))) (record {
               within = omega arith;
               bounded = omega (arith, s.linked.bounded);
-              chained = subst (λ x. Chained (len + 1) (set rows len new_row) (set heads x (Some (len + 2)))) (sym e) (chained_more len rows heads new_row s.linked.chained room linked in_chain);
+              chained = subst (λ x. Chained (len + 1) (set rows len new_row) (set heads x (Some (len + 2)))) (sym e) (chained_more new_row s.linked.chained room linked in_chain);
             })
 
 -- a store without its newest row, which was taken off the head of its chain b
@@ -205,7 +205,7 @@ less_sound {n} {len} {b} {rows} {heads} s some e few =
       linked = record {
         within = omega (arith, s.linked.within);
         bounded = s.linked.bounded;
-        chained = subst (λ x. Chained k rows (set heads x (row rows k).next)) (sym e) (chained_less k rows heads (subst (λ x. Chained x rows heads) z s.linked.chained) (subst (λ x. x < 1024) e few));
+        chained = subst (λ x. Chained k rows (set heads x (row rows k).next)) (sym e) (chained_less (subst (λ x. Chained x rows heads) z s.linked.chained) (subst (λ x. x < 1024) e few));
       };
     }
 

@@ -58,13 +58,10 @@ pub record Walk (len : ℕ) (rows : List Row) (m : Node) (link : Option ℕ) : T
   pub here : link ≡ newest rows (chain m) upto
   pub passed : (k : ℕ) → upto ≤ k → k < len → (row rows k).node ≡ m → ⊥
 
-module _ (len : ℕ) (rows : List Row) (m : Node) where
-  pub walk_starts : (heads : List (Option ℕ)) → Chained len rows heads → chain m < 1024 → Walk len rows m (get_or heads (chain m) None)
-  walk_starts heads c l = record { upto = len; within = omega arith; here = c.starts (chain m) l; passed = λ k a b p. omega arith }
-
+module _ {len : ℕ} {rows : List Row} {m : Node} where
   -- where a walk is, unless it has ended
-  pub walk_at : (link : Option ℕ) (h : ℕ) (w : Walk len rows m link) → link ≡ Some h → (j : ℕ) × (j < w.upto) × (h ≡ j + 2) × (chain (row rows j).node ≡ chain m)
-  walk_at link h w i =
+  walk_at : {link : Option ℕ} {h : ℕ} (w : Walk len rows m link) → link ≡ Some h → (j : ℕ) × (j < w.upto) × (h ≡ j + 2) × (chain (row rows j).node ≡ chain m)
+  walk_at {link} {h} w i =
       elim (newest_is rows (chain m) w.upto) [
         | inl z ↦ let e : Some h ≡ None = sym i ∙ (w.here ∙ z) in absurd (let bad : ⊥ = cc in bad)
         | inr y ↦ let (j, l, e, c) = y in
@@ -72,22 +69,22 @@ module _ (len : ℕ) (rows : List Row) (m : Node) where
             (j, l, (cc), c)
       ]
 
-  pub walk_two : (link : Option ℕ) (h : ℕ) → Walk len rows m link → link ≡ Some h → 2 ≤ h
-  walk_two link h w i = let (j, l, e, c) = walk_at link h w i in omega arith
+  pub walk_two : {link : Option ℕ} {h : ℕ} → Walk len rows m link → link ≡ Some h → 2 ≤ h
+  walk_two w i = let (j, l, e, c) = walk_at w i in omega arith
 
-  pub walk_below : (link : Option ℕ) (h : ℕ) → Walk len rows m link → link ≡ Some h → h - 2 < len
-  walk_below link h w i = let (j, l, e, c) = walk_at link h w i in let b = w.within in omega arith
+  pub walk_below : {link : Option ℕ} {h : ℕ} → Walk len rows m link → link ≡ Some h → h - 2 < len
+  walk_below w i = let (j, l, e, c) = walk_at w i in let b = w.within in omega arith
 
-  pub walk_found : (link : Option ℕ) (h : ℕ) → Walk len rows m link → link ≡ Some h → (row rows (h - 2)).node ≡ m → Placed len rows m (Some h)
-  walk_found link h w i p =
-      let (j, l, e, c) = walk_at link h w i in
+  pub walk_found : {link : Option ℕ} {h : ℕ} → Walk len rows m link → link ≡ Some h → (row rows (h - 2)).node ≡ m → Placed len rows m (Some h)
+  walk_found {link} {h} w i p =
+      let (j, l, e, c) = walk_at w i in
       let b = w.within in
       (h - 2, omega arith, omega arith, p)
 
   -- one link on
-  pub walk_on : (heads : List (Option ℕ)) (link : Option ℕ) (h : ℕ) → Chained len rows heads → Walk len rows m link → link ≡ Some h → ((row rows (h - 2)).node ≡ m → ⊥) → Walk len rows m (row rows (h - 2)).next
-  walk_on heads link h ch w g other =
-      let (j, l, e, c) = walk_at link h w g in
+  pub walk_on : {heads : List (Option ℕ)} {link : Option ℕ} {h : ℕ} → Chained len rows heads → Walk len rows m link → link ≡ Some h → ((row rows (h - 2)).node ≡ m → ⊥) → Walk len rows m (row rows (h - 2)).next
+  walk_on {heads} {link} {h} ch w g other =
+      let (j, l, e, c) = walk_at w g in
       let b = w.within in
       let i : h - 2 ≡ j = omega arith in
       record {
@@ -103,9 +100,9 @@ module _ (len : ℕ) (rows : List Row) (m : Node) where
         ];
       }
 
-  pub walk_falls : (heads : List (Option ℕ)) (link : Option ℕ) (h : ℕ) → Chained len rows heads → Walk len rows m link → link ≡ Some h → reach (row rows (h - 2)).next < reach link
-  walk_falls heads link h ch w g =
-      let (j, l, e, c) = walk_at link h w g in
+  pub walk_falls : {heads : List (Option ℕ)} {link : Option ℕ} {h : ℕ} → Chained len rows heads → Walk len rows m link → link ≡ Some h → reach (row rows (h - 2)).next < reach link
+  walk_falls {heads} {link} {h} ch w g =
+      let (j, l, e, c) = walk_at w g in
       let b = w.within in
       let i : h - 2 ≡ j = omega arith in
       let k = ch.links j (omega arith) in
@@ -117,15 +114,15 @@ module _ (len : ℕ) (rows : List Row) (m : Node) where
             omega arith
       ])
 
-  pub walk_ends : (link : Option ℕ) → Walk len rows m link → link ≡ None → Placed len rows m None
-  walk_ends link w z k l p =
+  pub walk_ends : {link : Option ℕ} → Walk len rows m link → link ≡ None → Placed len rows m None
+  walk_ends w z k l p =
       elim (cases_lt k w.upto) [
         | inr late ↦ w.passed k late l p
         | inl early ↦ newest_none rows (chain m) w.upto k early (let here = ap reach w.here in let end = ap reach z in omega arith) (ap chain p)
       ]
 
 -- a row behind the others, at the head of its chain
-module _ (len : ℕ) (rows : List Row) (heads : List (Option ℕ)) (r : Row) (c : Chained len rows heads) (room : len < length rows) (linked : r.next ≡ get_or heads (chain r.node) None) (few : chain r.node < 1024) where
+module _ {len : ℕ} {rows : List Row} {heads : List (Option ℕ)} (r : Row) (c : Chained len rows heads) (room : len < length rows) (linked : r.next ≡ get_or heads (chain r.node) None) (few : chain r.node < 1024) where
   pub set_before : (k : ℕ) → k < len → row (set rows len r) k ≡ row rows k
   set_before k l = let ne : k ≢ len = omega arith in rw get_or-set_other
 
@@ -154,8 +151,8 @@ module _ (len : ℕ) (rows : List Row) (heads : List (Option ℕ)) (r : Row) (c 
   chained_more = rw add-one (record { many = length-set heads (chain r.node) (Some (len + 2)) ∙ c.many; starts = starts_more; links = links_more })
 
 -- the newest row taken off the head of its chain
-pub chained_less : (k : ℕ) (rows : List Row) (heads : List (Option ℕ)) → Chained (suc k) rows heads → chain (row rows k).node < 1024 → Chained k rows (set heads (chain (row rows k).node) (row rows k).next)
-chained_less k rows heads c few = record {
+pub chained_less : {k : ℕ} {rows : List Row} {heads : List (Option ℕ)} → Chained (suc k) rows heads → chain (row rows k).node < 1024 → Chained k rows (set heads (chain (row rows k).node) (row rows k).next)
+chained_less {k} {rows} {heads} c few = record {
   many = length-set heads _ _ ∙ c.many;
   links = λ j l. c.links j (omega arith);
   starts = λ b l. elim (cases_eq b (chain (row rows k).node)) [

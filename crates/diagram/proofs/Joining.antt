@@ -18,12 +18,6 @@ use Rattle.diagram.proofs.Rows.{functions_kept, functions_none, functions_length
 use Rattle.diagram.proofs.Canonical.{free_at}
 use Rattle.diagram.proofs.Building.{stays}
 
-pub extends_then : {n len : ℕ} {rows : List Row} {n' len' : ℕ} {rows' : List Row} {n'' len'' : ℕ} {rows'' : List Row} → ExtendsOf n len rows n' len' rows' → ExtendsOf n' len' rows' n'' len'' rows'' → ExtendsOf n len rows n'' len'' rows''
-extends_then a b =
-    let l = a.longer in
-    let m = b.longer in
-    record { inputs_kept = b.inputs_kept ∙ a.inputs_kept; longer = omega arith; size_kept = b.size_kept ∙ a.size_kept; rows_kept = λ k q. b.rows_kept k (omega arith) ∙ a.rows_kept k q }
-
 -- A handle has its function and its first variable while the rows grow.
 pub function_kept : {n len : ℕ} {rows : List Row} {n' len' : ℕ} {rows' : List Row} → ExtendsOf n len rows n' len' rows' → (h : ℕ) → h < len + 2 → at (functions n' rows' len') h ≡ at (functions n rows len) h
 function_kept {n} {len} {rows} {n'} {len'} {rows'} e h l =

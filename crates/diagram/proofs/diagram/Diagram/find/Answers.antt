@@ -4,24 +4,21 @@ use Rattle.diagram.proofs.Chaining.{walk_two, walk_below, walk_found, walk_on, w
 use Rattle.diagram.proofs.diagram.Diagram.find.Goals as goal
 
 pub overflow_sub-row : goal.overflow_sub-row
-overflow_sub-row c = walk_two c.args.self.now.len c.args.self.now.rows.now c.args.node c.loop-link.link c.in-Some.h c.loop-link.invariant c.in-Some.is
+overflow_sub-row c = walk_two c.loop-link.invariant c.in-Some.is
 
 pub bounds-self-h : goal.bounds-self-h
-bounds-self-h c =
-    let b = walk_below c.args.self.now.len c.args.self.now.rows.now c.args.node c.loop-link.link c.in-Some.h c.loop-link.invariant c.in-Some.is in
-    omega (arith, c.args.self.now.sound.linked.within)
+bounds-self-h c = let b = walk_below c.loop-link.invariant c.in-Some.is in omega (arith, c.args.self.now.sound.linked.within)
 
 pub returns-then-eq : goal.returns-then-eq
-returns-then-eq c = walk_found c.args.self.now.len c.args.self.now.rows.now c.args.node c.loop-link.link c.in-Some.h c.loop-link.invariant c.in-Some.is (search rules)
+returns-then-eq c = walk_found c.loop-link.invariant c.in-Some.is (search rules)
 
 pub loop-link-smaller : goal.loop-link-smaller
-loop-link-smaller c =
-    walk_falls c.args.self.now.len c.args.self.now.rows.now c.args.node c.args.self.now.heads c.loop-link.link c.in-Some.h c.args.self.now.sound.linked.chained c.loop-link.invariant c.in-Some.is
+loop-link-smaller c = walk_falls c.args.self.now.sound.linked.chained c.loop-link.invariant c.in-Some.is
 
 pub loop-link-preserved : goal.loop-link-preserved
 loop-link-preserved c =
-    walk_on c.args.self.now.len c.args.self.now.rows.now c.args.node c.args.self.now.heads c.loop-link.link c.in-Some.h c.args.self.now.sound.linked.chained c.loop-link.invariant c.in-Some.is
+    walk_on c.args.self.now.sound.linked.chained c.loop-link.invariant c.in-Some.is
     (λ e. false≢true (sym c.if-eq.false ∙ (rw e at c.eq.ensures ∙ node_itself c.args.node)))
 
 pub returns : goal.returns
-returns c = walk_ends c.args.self.now.len c.args.self.now.rows.now c.args.node c.loop-link.link c.loop-link.invariant (search rules)
+returns c = walk_ends c.loop-link.invariant (search rules)
