@@ -56,11 +56,8 @@ cut_meaning n len rows m n' len' rows' two top c =
     ap (λ x. meaning_of x len' rows') c.inputs_kept ∙ (ap (λ x. meaning_of n x rows') c.len_is ∙ (ap (λ x. meaning_of n (m - 2) x) c.rows_kept ∙ cc e))
 
 module _ {n len : ℕ} {rows : List Row} {heads : List (Option ℕ)} (s : SoundOf n len rows heads) where
-  pub held : (h : ℕ) → h < len + 2 → h < length (functions n rows len)
+  held : (h : ℕ) → h < len + 2 → h < length (functions n rows len)
   held h l = omega (arith, functions_length n rows len)
-
-  pub not_held : (h : ℕ) → len + 2 ≤ h → h < length (functions n rows len) → ⊥
-  not_held h l m = omega (arith, functions_length n rows len)
 
   pub answers_variable : (v : ℕ) (r : Result ℕ StoreFault) (m' : Meaning) → v ≤ n → Yields subfunctions (meaning_of n len rows) (Unit {0}) (node n v (at (functions n rows len) 0) (at (functions n rows len) 1) ∷ []) (node n v (at (functions n rows len) 0) (at (functions n rows len) 1)) r m' → Takes subfunctions (meaning_of n len rows) v r m'
   answers_variable v r m' l y =

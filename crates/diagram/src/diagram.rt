@@ -38,6 +38,7 @@ impl<'a> Diagram<'a> {
     }
 
     // Refuses a handle that is not held.
+    #[tactic(auto, using(crate::proofs::Rows::functions_length))]
     pub(crate) fn held(&self, h: usize) -> Result<(), StoreFault>
         ensures { Admits self.now h result }
     {

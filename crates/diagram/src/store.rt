@@ -59,6 +59,7 @@ impl Store for Diagram<'_> {
         self.len + 2
     }
 
+    #[tactic(auto, using(crate::proofs::Rows::functions_length))]
     fn release(&mut self, m: usize) -> Result<(), StoreFault> {
         if m < 2 || self.len + 2 < m {
             return Err(StoreFault::Bounds);

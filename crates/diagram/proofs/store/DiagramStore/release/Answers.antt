@@ -1,21 +1,7 @@
-use Rattle.std.proofs.Common.{◌+◌, ◌≤◌, refl, arith}
+use Rattle.std.proofs.Common.{◌+◌, ◌≤◌, arith}
 use Rattle.diagram.proofs.Calls.{cut_meaning}
 use Rattle.diagram.proofs.Rows.{functions_length}
 use Rattle.diagram.proofs.store.DiagramStore.release.Goals as goal
-use Rattle.diagram.proofs.store.DiagramStore.release.Goals.{then-m-lt2-via-then-m-lt2, then-m-lt2-via-else-m-lt2+then-self-m}
-
-pub returns-then-m-lt2 : goal.returns-then-m-lt2
-returns-then-m-lt2 c =
-    let d = c.args.self.now in
-    record {
-      releases = (
-        (λ h. elim c.then-m-lt2.branch [
-          | then-m-lt2-via-then-m-lt2 w ↦ omega (arith, h.0, w.if-m-lt2.true)
-          | then-m-lt2-via-else-m-lt2+then-self-m w ↦ omega (arith, h.1, w.if-self-m.true, functions_length d.inputs d.rows.now d.len)
-        ]),
-        refl,
-      );
-    }
 
 pub returns : goal.returns
 returns c =
