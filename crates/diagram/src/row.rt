@@ -1,7 +1,7 @@
 //! The rows of a diagram.
 
 /// A variable, and the handles of what is left of a function where the variable is 0 and where it is 1.
-#[derive(Clone, Copy, PartialEq, Eq)]
+#[derive(Clone, Copy, Debug, PartialEq, Eq)]
 pub(crate) struct Node {
     pub(crate) variable: u8,
     pub(crate) low: u16,
@@ -10,7 +10,7 @@ pub(crate) struct Node {
 
 /// A row of a diagram: the node of the row's function. A row also has the link of its chain, for the search for equal
 /// rows.
-#[derive(Clone, Copy)]
+#[derive(Clone, Copy, Debug)]
 pub struct Row {
     pub(crate) node: Node,
     pub(crate) next: Option<u16>,
