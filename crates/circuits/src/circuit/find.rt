@@ -1,5 +1,5 @@
 //! Stems and outputs by their names.
-ghost use Rattle.std.specs.Prelude.{◌≡◌, ◌^◌, ◌<◌};
+ghost use Rattle.std.specs.Prelude.{◌≡◌};
 ghost use Rattle.circuits.specs.Circuits.{net, name_bytes};
 ghost use Rattle.circuits.specs.Legality.{position, stem_names, output_names};
 ghost use Rattle.circuits.specs.Lines.{stem_count};

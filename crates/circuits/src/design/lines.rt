@@ -1,8 +1,8 @@
 //! The lines of a design's circuit, by their numbers.
-ghost use Rattle.std.specs.Prelude.{◌≡◌, ℕ, ◌^◌, ◌<◌, true, length, is_some, Some, nat_lt};
+ghost use Rattle.std.specs.Prelude.{◌≡◌, ℕ, ◌^◌, ◌<◌, length, is_some, Some, nat_lt};
 ghost use Rattle.circuits.specs.declared.place.Place.{Place};
 ghost use Rattle.circuits.specs.Drafts.{design_parts};
-ghost use Rattle.circuits.specs.Lines.{stem_count, pin_count, line_count, line_of, place_of};
+ghost use Rattle.circuits.specs.Lines.{pin_count, line_count, line_of, place_of};
 
 use crate::counts::Counts;
 use crate::design::Design;

@@ -18,13 +18,8 @@ impl Design {
         requires { pin.stem < stem_count (design_parts self.now).circuit }
         ensures { result ≡ obeys (bound (design_parts self.now).rows output assignment) (through pin (carried (design_parts self.now).circuit assignment)) }
     {
-        match bound_value(self.draft.rows.as_slice(), output, assignment) {
-            None => true,
-            Some(value) => {
-                let bits = self.stem_bits(assignment);
-                value == pin.get(bits.as_slice())
-            }
-        }
+        let bound = bound_value(self.draft.rows.as_slice(), output, assignment);
+        bound.is_none_or(|value| value == pin.get(self.stem_bits(assignment).as_slice()))
     }
 
     /// Whether an output has its bound value wherever it is bound. None where there is no such output.

@@ -1,5 +1,5 @@
 //! Which assignments a row covers, and what rows bind an output to.
-ghost use Rattle.std.specs.Prelude.{◌≡◌, ◌≤◌, length};
+ghost use Rattle.std.specs.Prelude.{◌≡◌};
 ghost use Rattle.circuits.specs.Specification.{literal_list, matches, covers, binds, bound};
 
 use crate::literal::Literal;
