@@ -1,17 +1,17 @@
 -- What outputs meet, and counting those that miss their rows.
-use Rattle.std.proofs.Common.{take, ◌≡◌, ℕ, zero, suc, ◌+◌, ◌<◌, ◌≤◌, Bool, true, false, cond, not, ◌⊎◌, List, [], ◌∷◌, length, get_or, drop, Some, None, Option, unwrap_or, sym, refl, ap, ◌∙◌, inl, inr, ⊎_elim, add-one, arith}
+use Rattle.std.proofs.Common.{take, ◌≡◌, ℕ, zero, suc, ◌+◌, ◌<◌, ◌≤◌, Bool, true, false, cond, not, ◌⊎◌, List, length, get_or, drop, Some, None, Option, unwrap_or, sym, refl, ap, ◌∙◌, inl, inr, ⊎_elim, add-one, arith}
 use Rattle.std.specs.Option.{option_map}
 use Rattle.std.specs.List.{slice_get, filter, range_with_len}
 use Rattle.std.proofs.lemmas.List.Filters.{length-filter_more}
 use Rattle.std.proofs.lemmas.List.FromFn.{length-range_with_len, get_or-range_with_len}
-use Rattle.std.proofs.lemmas.List.{take_all, drop_more, drop_all}
-use Rattle.std.proofs.lemmas.Option.{slice_get-get_or}
+use Rattle.std.proofs.lemmas.List.{take_all, drop_all}
 use Rattle.std.proofs.lemmas.Bool.{and_parts, and_from, cases_order}
 use Rattle.circuits.specs.declared.gate.Output.{Output}
 use Rattle.circuits.specs.declared.pin.Pin.{Pin}
 use Rattle.circuits.specs.declared.row.SpecRow.{SpecRow}
 use Rattle.circuits.specs.Circuits.{Net, assignments, carried, through}
 use Rattle.circuits.specs.Specification.{bound, obeys, each_below, meets, misses, misses_from}
+use Rattle.circuits.proofs.Working.{element}
 
 cases_last : (k n : ℕ) → k < suc n → (k ≡ n) ⊎ (k < n)
 cases_last k n h = ⊎_elim inl (⊎_elim inr (λ g. let z : ⊥ = omega arith in absurd z)) (cases_order k n)
@@ -28,12 +28,6 @@ pub each_below_from : (n : ℕ) (t : ℕ → Bool) → ((k : ℕ) → k < n → 
 unfolding each_below
 each_below_from zero t h = refl
 each_below_from (suc n) t h = and_from (each_below n t) (t n) (each_below_from n t (λ k l. h k (omega arith))) (h n (omega arith))
-
--- the i-th of a list, since there is one
-element : {X : Type 0} (xs : List X) (i : ℕ) → i < length xs → (x : X) × (drop i xs ≡ x ∷ drop (i + 1) xs) × (slice_get xs i ≡ Some x)
-element [] i h = let z : ⊥ = omega arith in absurd z
-element (y ∷ ys) i h =
-    let x = get_or (y ∷ ys) i y in (x, drop_more (y ∷ ys) i y h, slice_get-get_or (y ∷ ys) i y h)
 
 swap_cond : (t : Bool) (x y : ℕ) → cond (not t) x y ≡ cond t y x
 swap_cond true x y = refl

@@ -1,5 +1,5 @@
 -- Working out a circuit gate by gate, with nothing put into it.
-use Rattle.std.proofs.Common.{◌≡◌, ℕ, zero, suc, ◌+◌, ◌-◌, ◌<◌, ◌≤◌, Bool, true, ltb, List, [], ◌∷◌, ◌++◌, map, length, get_or, drop, sym, refl, ap, ◌∙◌, add-one, arith}
+use Rattle.std.proofs.Common.{◌≡◌, ℕ, zero, suc, ◌+◌, ◌-◌, ◌<◌, ◌≤◌, Bool, true, ltb, List, [], ◌∷◌, ◌++◌, map, length, get_or, drop, Some, sym, refl, ap, ◌∙◌, add-one, arith}
 use Rattle.std.proofs.lemmas.List.{drop_more, drop_all, length-drop, length_push, append_assoc, append-nil}
 use Rattle.std.proofs.lemmas.Bool.{and_parts, ltb-true}
 use Rattle.circuits.specs.declared.gate.Gate.{Gate}
@@ -12,7 +12,7 @@ use Rattle.circuits.specs.Legality.{pins_read, gate_legal, gates_legal, outputs_
 use Rattle.circuits.specs.Lines.{stem_count, pin_at}
 use Rattle.std.specs.List.{slice_get}
 use Rattle.std.specs.Option.{IfSome, option_map}
-use Rattle.std.proofs.lemmas.Option.{IfSome_then}
+use Rattle.std.proofs.lemmas.Option.{IfSome_then, slice_get-get_or}
 
 -- what each pin gets
 pub received_each : (g i : ℕ) (stems : List Bool) (ps : List Pin) → received nothing g i stems ps ≡ map (λ (p : Pin). through p stems) ps
@@ -37,10 +37,11 @@ gate_at s (g ∷ gs) (suc k) d h l =
     let e : s + suc k ≡ suc s + k = omega arith in
     rw e (gate_at (suc s) gs k d (and_parts (gate_legal s g) (gates_legal (suc s) gs) h).1 (omega arith))
 
--- an element of a list, since there is one
-pub element : {X : Type 0} (xs : List X) (i : ℕ) → i < length xs → X
+-- the i-th of a list, since there is one
+pub element : {X : Type 0} (xs : List X) (i : ℕ) → i < length xs → (x : X) × (drop i xs ≡ x ∷ drop (i + 1) xs) × (slice_get xs i ≡ Some x)
 element [] i h = let z : ⊥ = omega arith in absurd z
-element (x ∷ xs) i h = x
+element (y ∷ ys) i h =
+    let x = get_or (y ∷ ys) i y in (x, drop_more (y ∷ ys) i y h, slice_get-get_or (y ∷ ys) i y h)
 
 -- All inputs but the last k are worked out.
 pub record InputsDone (names : List Name) (a : ℕ) (bits : List Bool) (k : ℕ) : Type 0 where
@@ -56,7 +57,7 @@ inputs_more names a bits more k some added p =
     let l : i < length names = omega (arith, p.count) in
     let n : length (drop (i + 1) names) ≡ k - 1 = length-drop (i + 1) names ∙ omega (arith, p.count) in
     let s : input_stems nothing i (drop i names) a ≡ v ∷ input_stems nothing (i + 1) (drop (i + 1) names) a =
-    ap (λ xs. input_stems nothing i xs a) (drop_more names i (element names i l) l) ∙ (ap (λ j. bit a j ∷ input_stems nothing (suc i) (drop (i + 1) names) a) n ∙ ap (λ j. v ∷ input_stems nothing j (drop (i + 1) names) a) (sym (add-one i)))
+    ap (λ xs. input_stems nothing i xs a) (element names i l).1 ∙ (ap (λ j. bit a j ∷ input_stems nothing (suc i) (drop (i + 1) names) a) n ∙ ap (λ j. v ∷ input_stems nothing j (drop (i + 1) names) a) (sym (add-one i)))
     in
     let e : length more ≡ i + 1 = ap length added ∙ length_push bits v in
     record {

@@ -48,6 +48,7 @@ impl Circuit {
         ensures { entries result ≡ carried (net self.now) assignment }
     {
         let mut bits = Short::none();
+        // k is the place of a bit in the assignment, and no index of a list
         for k in (0..self.inputs.len()).rev() {
             bits.push((assignment >> k) % 2 == 1).unwrap();
         }

@@ -1,23 +1,20 @@
 //! What a name is made from, its bytes, and when two names are the same.
 ghost use Rattle.std.specs.Prelude.{◌≡◌, true, false, MatchOption};
 ghost use Rattle.circuits.specs.Circuits.{name_bytes};
-ghost use Rattle.circuits.specs.Names.{letter, is_name};
+ghost use Rattle.circuits.specs.Names.{is_name};
 
 use crate::name::Name;
 use crate::short::Short;
-
-// a to z, or 0 to 9
-fn is_letter(byte: u8) -> bool
-    ensures { result ≡ letter byte }
-{
-    (b'a' <= byte && byte <= b'z') || (b'0' <= byte && byte <= b'9')
-}
 
 // Whether these bytes are a name.
 fn is_name(bytes: &[u8]) -> bool
     ensures { result ≡ is_name bytes.now }
 {
-    !bytes.is_empty() && bytes.len() <= 8 && bytes.iter().all(|byte| is_letter(*byte))
+    !bytes.is_empty()
+        && bytes.len() <= 8
+        && bytes
+            .iter()
+            .all(|byte| byte.is_ascii_lowercase() || byte.is_ascii_digit())
 }
 
 impl Name {
