@@ -1,6 +1,7 @@
 -- Records and the fields that they are taken apart into.
-use Rattle.std.proofs.Common.{◌≡◌, ℕ, ◌≤◌, true, false, ◌&&◌, leb, List, ◌∷◌, length, drop, Some, None, codes, Option, sym, refl, ap, ◌∙◌, subst, arith, Bor}
-use Rattle.std.proofs.lemmas.Bool.{and_left, and_from, le-leb}
+use Rattle.std.proofs.Common.{◌≡◌, ℕ, ◌≤◌, true, ◌&&◌, leb, List, [], ◌∷◌, length, Some, codes, Option, sym, refl, ap, ◌∙◌, subst, arith, Bor}
+use Rattle.std.proofs.lemmas.Bool.{and_from, le-leb}
+use Rattle.std.specs.List.{list_all}
 use Rattle.std.specs.Option.{option_map}
 use Rattle.circuits.specs.declared.kind.Kind.{Kind}
 use Rattle.circuits.specs.Names.{is_name}
@@ -21,32 +22,21 @@ left_of o = fields_left (option_map (λ x. x.now) o)
 pub first_of : (o : Option (Bor (List ℕ))) (rest : Bor (List ℕ)) (f : List ℕ) (fs : List (List ℕ)) → o ≡ Some rest → fs ≡ f ∷ left_of o → fs ≡ f ∷ fields rest.now
 first_of o rest f fs is all = all ∙ ap (λ x. f ∷ left_of x) is
 
--- the pins from the first on
-pub pins_first : (o more : Option (Bor (List ℕ))) (bs : Bor (List ℕ)) (f : List ℕ) → o ≡ Some bs → fields bs.now ≡ f ∷ left_of more → all_pins (left_of o) ≡ (is_pin f && all_pins (left_of more))
+-- whether each is a pin, in the library's words
+pub all_pins_all : (ps : List (List ℕ)) → all_pins ps ≡ list_all is_pin ps
 unfolding all_pins
-pins_first o more bs f is all = ap (λ x. all_pins (left_of x)) is ∙ ap all_pins all
-
-pub pins_bad : (o more : Option (Bor (List ℕ))) (bs : Bor (List ℕ)) (f : List ℕ) → o ≡ Some bs → fields bs.now ≡ f ∷ left_of more → is_pin f ≡ false → all_pins (left_of o) ≡ false
-pins_bad o more bs f is all bad = pins_first o more bs f is all ∙ and_left (is_pin f) (all_pins (left_of more)) bad
-
-pub pins_good : (o more : Option (Bor (List ℕ))) (bs : Bor (List ℕ)) (f : List ℕ) → o ≡ Some bs → fields bs.now ≡ f ∷ left_of more → is_pin f ≡ true → all_pins (left_of o) ≡ all_pins (left_of more)
-pins_good o more bs f is all good = pins_first o more bs f is all ∙ ap (λ t. t && all_pins (left_of more)) good
-
-pub pins_none : (o : Option (Bor (List ℕ))) → o ≡ None → all_pins (left_of o) ≡ true
-unfolding all_pins
-pins_none o is = ap (λ x. all_pins (left_of x)) is
+all_pins_all [] = refl
+all_pins_all (p ∷ ps) = ap (λ t. is_pin p && t) (all_pins_all ps)
 
 -- a gate's record, of which fs follow the first field
 pub gate_parts :
-    (fs : List (List ℕ)) (x : List ℕ) (k : Kind) (rest pins : List ℕ) → is_name x ≡ true → fs ≡ x ∷ fields rest → fields rest ≡ kind_word k ∷ fields pins → all_pins (fields pins) ≡ true →
-    (well_shaped (gate x k (drop 2 fs)) ≡ true) × (codes "gate" ∷ fs ≡ shape_fields (gate x k (drop 2 fs)))
-gate_parts fs x k rest pins good head next all =
-    let whole : fs ≡ x ∷ kind_word k ∷ fields pins = head ∙ ap (λ l. x ∷ l) next in
-    subst (λ l. (well_shaped (gate x k (drop 2 l)) ≡ true) × (codes "gate" ∷ l ≡ shape_fields (gate x k (drop 2 l)))) (sym whole) (
-      and_from (is_name x) (leb 1 (length (fields pins)) && all_pins (fields pins)) good
-          (and_from (leb 1 (length (fields pins))) (all_pins (fields pins)) (le-leb 1 (length (fields pins)) (some_field pins)) all),
-      refl,
-    )
+    (fs : List (List ℕ)) (x : List ℕ) (k : Kind) (rest : List ℕ) (pins raw : Bor (List ℕ)) → is_name x ≡ true → fs ≡ x ∷ fields rest → fields rest ≡ kind_word k ∷ fields pins.now → raw ≡ pins → all_pins (fields raw.now) ≡ true →
+    (well_shaped (gate x k (fields raw.now)) ≡ true) × (codes "gate" ∷ fs ≡ shape_fields (gate x k (fields raw.now)))
+gate_parts fs x k rest pins raw good head next same all = (
+  and_from (is_name x) (leb 1 (length (fields raw.now)) && all_pins (fields raw.now)) good
+      (and_from (leb 1 (length (fields raw.now))) (all_pins (fields raw.now)) (le-leb 1 (length (fields raw.now)) (some_field raw.now)) all),
+  ap (λ l. codes "gate" ∷ l) (head ∙ ap (λ l. x ∷ l) (next ∙ ap (λ (y : Bor (List ℕ)). kind_word k ∷ fields y.now) (sym same))),
+)
 
 -- a record by its first field, and what follows it taken apart
 pub apart_word :

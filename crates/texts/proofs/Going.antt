@@ -1,5 +1,5 @@
 -- Going through a text, record by record.
-use Rattle.std.proofs.Common.{◌≡◌, ℕ, ◌+◌, ◌-◌, ◌<◌, List, length, Some, None, Ok, Err, Result, MatchResult, IsErrAnd, sym, refl, ap, ◌∙◌, subst, add-one, arith, Bor}
+use Rattle.std.proofs.Common.{◌≡◌, ℕ, ◌+◌, ◌-◌, ◌<◌, List, length, Some, None, Ok, Err, Result, sym, refl, ap, ◌∙◌, subst, add-one, arith, Bor}
 use Rattle.texts.specs.declared.fault.Cause.{Cause}
 use Rattle.texts.specs.declared.fault.Cause.TheVariants.{Shape}
 use Rattle.texts.specs.declared.fault.Text.{Text}
@@ -23,22 +23,6 @@ pub place_next : (bs : List ℕ) (n place long : ℕ) → place ≡ record_place
 place_next bs n place long e f =
     let i : place + (long + 1) ≡ place + length (record_at bs place) + 1 = omega arith in
     i ∙ (ap (λ p. p + length (record_at bs p) + 1) e ∙ sym (place_more bs n))
-
--- what the result of taking a record was, by the one that tells its fault
-module _ {X : Type 0} (tells : Cause → TextFault → Type 0) (r : Result X Cause) (m : Result X TextFault) (cases : MatchResult r (λ y. m ≡ Ok y) (λ c. IsErrAnd m (tells c))) where
-  pub mapped_ok : (x : X) → m ≡ Ok x → r ≡ Ok x
-  mapped_ok x was =
-      elim r as (λ z. MatchResult z (λ y. m ≡ Ok y) (λ c. IsErrAnd m (tells c)) → z ≡ Ok x) [
-        | Ok y ↦ λ e. let same : y ≡ x = cc in ap Ok same
-        | Err c ↦ λ e. absurd (subst (λ y. IsErrAnd y (tells c)) was e)
-      ] cases
-
-  pub mapped_err : (told : Cause → TextFault) (f : TextFault) → m ≡ Err f → ((c : Cause) → tells c f → f ≡ told c) → (c : Cause) × (r ≡ Err c) × (f ≡ told c)
-  mapped_err told f was k =
-      elim r as (λ z. MatchResult z (λ y. m ≡ Ok y) (λ c. IsErrAnd m (tells c)) → (c : Cause) × (z ≡ Err c) × (f ≡ told c)) [
-        | Ok y ↦ λ e. let z : ◌≡◌ {A = ℕ} 0 1 = cc in absurd (omega arith)
-        | Err c ↦ λ e. (c, refl, k c (subst (λ y. IsErrAnd y (tells c)) was e))
-      ] cases
 
 pub spot_same : (s : Spot) (n p l : ℕ) → s.number ≡ n → s.place ≡ p → s.length ≡ l → s ≡ record { number = n; place = p; length = l }
 spot_same s n p l e f g =

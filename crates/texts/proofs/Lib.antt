@@ -1,4 +1,5 @@
 mod Splits
+mod Exits
 mod Words
 mod Forms
 mod Lookups

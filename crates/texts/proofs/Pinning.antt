@@ -1,78 +1,89 @@
 -- Pins that are looked up one after the other.
-use Rattle.std.proofs.Common.{◌≡◌, ℕ, ◌<◌, Bool, true, false, List, [], ◌∷◌, ◌++◌, length, Some, None, Option, sym, refl, ap, ◌∙◌, ⊎_elim, append_assoc, append-nil, arith, Bor}
-use Rattle.std.proofs.lemmas.List.{length_push}
-use Rattle.std.proofs.lemmas.Bool.{cases_Bool, true≢false}
+use Rattle.std.proofs.Common.{◌≡◌, ℕ, ◌+◌, ◌<◌, eqb, map, List, [], ◌∷◌, ◌++◌, length, get_or, take, drop, Some, None, Ok, Err, Option, Result, sym, refl, ap, ◌∙◌, subst, arith, MatchResult}
+use Rattle.std.proofs.lemmas.List.{length_push, take-append-drop, drop_more}
+use Rattle.std.proofs.lemmas.Iterator.{YieldsList}
+use Rattle.std.proofs.lemmas.Iterator.Consumers.{YieldsList-so_far, YieldsList-turn, YieldsList-end}
+use Rattle.std.specs.Iterator.{Yields}
+use Rattle.std.specs.List.{slice_split}
 use Rattle.std.specs.Option.{option_map}
-use Rattle.circuits.specs.declared.pin.Pin.{Pin}
 use Rattle.circuits.specs.Circuits.{Pins, pin_list}
+use Rattle.circuits.specs.declared.pin.Pin.{Pin}
 use Rattle.circuits.specs.Drafts.{Parts}
 use Rattle.circuits.specs.Lines.{then}
-use Rattle.texts.specs.Adding.{pin_named, pins_named}
-use Rattle.texts.specs.Records.{fields}
-use Rattle.texts.proofs.Forms.{left_of}
+use Rattle.texts.specs.declared.fault.Cause.{Cause}
+use Rattle.texts.specs.declared.fault.Cause.TheVariants.{PinCount}
+use Rattle.texts.specs.Adding.{pin_named, pins_named, PinsRead}
+use Rattle.texts.specs.Records.{comma, fields}
+use Rattle.texts.proofs.Splits.{fields_split}
 
--- The pins of the fields before the rest are read. They are those that were kept, or more than four.
-pub record Read (d : Parts) (fs : List (List ℕ)) (pins : Pins) (room : Bool) (rest : Option (Bor (List ℕ))) : Type 0 where
+-- The pins that fields write are those that the first of them write, and then the others.
+joined : (x : Option Pin) (y z : Option (List Pin)) → then x (λ p. option_map (λ ps. p ∷ ps) (then y (λ ps. option_map (λ qs. ps ++ qs) z))) ≡ then (then x (λ p. option_map (λ ps. p ∷ ps) y)) (λ ps. option_map (λ qs. ps ++ qs) z)
+joined None y z = refl
+joined (Some p) None z = refl
+joined (Some p) (Some ps) None = refl
+joined (Some p) (Some ps) (Some qs) = refl
+
+named_append : (d : Parts) (fs gs : List (List ℕ)) → pins_named d (fs ++ gs) ≡ then (pins_named d fs) (λ ps. option_map (λ qs. ps ++ qs) (pins_named d gs))
+unfolding pins_named
+named_append d [] gs = elim (pins_named d gs) as (λ y. y ≡ option_map (λ qs. [] ++ qs) y) [ None ↦ refl | Some qs ↦ refl ]
+named_append d (f ∷ fs) gs = ap (λ y. then (pin_named d f) (λ p. option_map (λ ps. p ∷ ps) y)) (named_append d fs gs) ∙ joined (pin_named d f) (pins_named d fs) (pins_named d gs)
+
+-- The stems of these fields are known. Their pins are read, or there are more than four.
+pub record Read (d : Parts) (fs : List (List ℕ)) (r : Result Pins Cause) : Type 0 where
   pub seen : List Pin
-  pub whole : pins_named d fs ≡ option_map (λ ps. seen ++ ps) (pins_named d (left_of rest))
-  pub kept : room ≡ true → seen ≡ pin_list pins
-  pub over : room ≡ false → 4 < length seen
+  pub named : pins_named d fs ≡ Some seen
+  pub told : PinsRead (Some seen) r
 
-pub read_none : (d : Parts) (o : Option (Bor (List ℕ))) (pins : Pins) → pin_list pins ≡ [] → Read d (left_of o) pins true o
-read_none d o pins e =
-    let same : (x : Option (List Pin)) → x ≡ option_map (λ ps. [] ++ ps) x = λ x. elim x as (λ y. y ≡ option_map (λ ps. [] ++ ps) y) [ None ↦ refl | Some ps ↦ refl ] in
-    record { seen = []; whole = same (pins_named d (left_of o)); kept = λ _. sym e; over = λ f. absurd (true≢false f) }
-
--- the first of the fields that are left
-first_pin : (d : Parts) (o more : Option (Bor (List ℕ))) (bs : Bor (List ℕ)) (f : List ℕ) → o ≡ Some bs → fields bs.now ≡ f ∷ left_of more → pins_named d (left_of o) ≡ then (pin_named d f) (λ p. option_map (λ ps. p ∷ ps) (pins_named d (left_of more)))
+pub read_none : (d : Parts) (pins : Pins) → pin_list pins ≡ [] → Read d [] (Ok pins)
 unfolding pins_named
-first_pin d o more bs f is all = ap (λ x. pins_named d (left_of x)) is ∙ ap (pins_named d) all
+read_none d pins e = record { seen = []; named = refl; told = ap Some (sym e) }
 
--- a pin more
-joined_pin : (seen : List Pin) (p : Pin) (x : Option (List Pin)) → option_map (λ ps. seen ++ ps) (option_map (λ ps. p ∷ ps) x) ≡ option_map (λ ps. (seen ++ p ∷ []) ++ ps) x
-joined_pin seen p None = refl
-joined_pin seen p (Some ps) = ap Some (sym (append_assoc seen (p ∷ []) ps))
-
-module _ (d : Parts) (fs : List (List ℕ)) (pins pins' : Pins) (room : Bool) (o more : Option (Bor (List ℕ))) (bs : Bor (List ℕ)) (f : List ℕ) where
-  -- what is read with one pin more
-  whole_more : (p : Pin) → o ≡ Some bs → fields bs.now ≡ f ∷ left_of more → Some p ≡ pin_named d f → (h : Read d fs pins room o) → pins_named d fs ≡ option_map (λ ps. (h.seen ++ p ∷ []) ++ ps) (pins_named d (left_of more))
-  whole_more p is all found h =
-      let step = first_pin d o more bs f is all ∙ ap (λ x. then x (λ q. option_map (λ ps. q ∷ ps) (pins_named d (left_of more)))) (sym found) in
-      h.whole ∙ (ap (option_map (λ ps. h.seen ++ ps)) step ∙ joined_pin h.seen p (pins_named d (left_of more)))
-
-  -- there was room for it,
-  pub read_kept :
-      (p : Pin) → o ≡ Some bs → fields bs.now ≡ f ∷ left_of more → Some p ≡ pin_named d f → pin_list pins' ≡ pin_list pins ++ p ∷ [] →
-      Read d fs pins room o → Read d fs pins' room more
-  read_kept p is all found added h =
-      let long = length_push h.seen p in
-      record {
-        seen = h.seen ++ p ∷ [];
-        whole = whole_more p is all found h;
-        kept = λ e. ap (λ l. l ++ p ∷ []) (h.kept e) ∙ sym added;
-        over = λ e. omega (arith, h.over e);
-      }
-
-  -- or not
-  pub read_over :
-      (p : Pin) → o ≡ Some bs → fields bs.now ≡ f ∷ left_of more → Some p ≡ pin_named d f → length (pin_list pins) ≡ 4 →
-      Read d fs pins room o → Read d fs pins' false more
-  read_over p is all found full h =
-      let long = length_push h.seen p in
-      let kept : room ≡ true → 4 < length (h.seen ++ p ∷ []) = λ e. omega (arith, ap length (h.kept e)) in
-      let over : room ≡ false → 4 < length (h.seen ++ p ∷ []) = λ e. omega (arith, h.over e) in
-      record {
-        seen = h.seen ++ p ∷ [];
-        whole = whole_more p is all found h;
-        kept = λ e. absurd (true≢false (sym e));
-        over = λ _. ⊎_elim kept over (cases_Bool room);
-      }
-
-pub read_unknown : (d : Parts) (fs : List (List ℕ)) (pins : Pins) (room : Bool) (o more : Option (Bor (List ℕ))) (bs : Bor (List ℕ)) (f : List ℕ) → o ≡ Some bs → fields bs.now ≡ f ∷ left_of more → None ≡ pin_named d f → Read d fs pins room o → pins_named d fs ≡ None
-read_unknown d fs pins room o more bs f is all gone h =
-    h.whole ∙ ap (option_map (λ ps. h.seen ++ ps)) (first_pin d o more bs f is all ∙ ap (λ x. then x (λ q. option_map (λ ps. q ∷ ps) (pins_named d (left_of more)))) (sym gone))
-
--- no field is left
-pub read_end : (d : Parts) (fs : List (List ℕ)) (pins : Pins) (room : Bool) (o : Option (Bor (List ℕ))) → o ≡ None → (h : Read d fs pins room o) → pins_named d fs ≡ Some h.seen
+-- one pin more
+named_more : (d : Parts) (fs : List (List ℕ)) (f : List ℕ) (ps : List Pin) (p : Pin) → pins_named d fs ≡ Some ps → Some p ≡ pin_named d f → pins_named d (fs ++ f ∷ []) ≡ Some (ps ++ p ∷ [])
 unfolding pins_named
-read_end d fs pins room o is h = h.whole ∙ (ap (λ x. option_map (λ ps. h.seen ++ ps) (pins_named d (left_of x))) is ∙ ap Some (append-nil h.seen))
+named_more d fs f ps p e h =
+    named_append d fs (f ∷ []) ∙ (ap (λ x. then x (λ qs. option_map (λ rs. qs ++ rs) (pins_named d (f ∷ [])))) e ∙ ap (λ x. option_map (λ rs. ps ++ rs) (then x (λ q. option_map (λ qs. q ∷ qs) (Some [])))) (sym h))
+
+-- a stem that is not known
+named_unknown : (d : Parts) (fs gs : List (List ℕ)) (f : List ℕ) → None ≡ pin_named d f → pins_named d (fs ++ f ∷ gs) ≡ None
+unfolding pins_named
+named_unknown d fs gs f h =
+    named_append d fs (f ∷ gs) ∙ (ap (λ x. then (pins_named d fs) (λ qs. option_map (λ rs. qs ++ rs) (then x (λ q. option_map (λ rs. q ∷ rs) (pins_named d gs))))) (sym h) ∙ gone (pins_named d fs))
+  where
+    gone : (x : Option (List Pin)) → then x (λ qs. option_map (λ rs. qs ++ rs) None) ≡ None
+    gone None = refl
+    gone (Some qs) = refl
+
+pub read_more :
+    (d : Parts) (fs : List (List ℕ)) (f : List ℕ) (p : Pin) (r r' : Result Pins Cause) → Some p ≡ pin_named d f →
+    MatchResult r (λ x. MatchResult r' (λ y. pin_list y ≡ pin_list x ++ p ∷ []) (λ c. (length (pin_list x) ≡ 4) × (c ≡ PinCount))) (λ c. r' ≡ Err c) →
+    Read d fs r → Read d (fs ++ f ∷ []) r'
+read_more d fs f p r r' found step h =
+    record { seen = h.seen ++ p ∷ []; named = named_more d fs f h.seen p h.named found; told = kept h.seen r r' step h.told }
+  where
+    kept :
+        (ps : List Pin) (s s' : Result Pins Cause) → MatchResult s (λ x. MatchResult s' (λ y. pin_list y ≡ pin_list x ++ p ∷ []) (λ c. (length (pin_list x) ≡ 4) × (c ≡ PinCount))) (λ c. s' ≡ Err c) →
+        PinsRead (Some ps) s → PinsRead (Some (ps ++ p ∷ [])) s'
+    kept ps (Ok x) (Ok y) e t = ap (option_map (λ qs. qs ++ p ∷ [])) t ∙ ap Some (sym e)
+    kept ps (Ok x) (Err c) e t = let same : ps ≡ pin_list x = cc in (omega (arith, length_push ps p, ap length same, e.0), e.1)
+    kept ps (Err c) s' e t = subst (PinsRead (Some (ps ++ p ∷ []))) (sym e) (omega (arith, length_push ps p, t.0), t.1)
+
+-- fields, of which the first are these and then comes this one
+fields_at : (all fs : List (List ℕ)) (f : List ℕ) (n : ℕ) → fs ≡ take n all → (n < length all) × (f ≡ get_or all n f) → all ≡ fs ++ f ∷ drop (n + 1) all
+fields_at all fs f n e (h, g) =
+    sym (take-append-drop n all) ∙ (ap (λ x. x ++ drop n all) (sym e) ∙ ap (λ x. fs ++ x) (drop_more all n f h ∙ ap (λ x. x ∷ drop (n + 1) all) (sym g)))
+
+-- The fields of a record are given one after the other, and these are given so far.
+module _ {S A : Type 0} {steps : S → Option A → S → Type 0} {v : A → List ℕ} {s : S} (d : Parts) (bs : List ℕ) (given : YieldsList steps v s (slice_split (λ b. eqb b comma) bs)) (xs : List A) (t : S) (so_far : Yields steps s xs t) (r : Option A) (u : S) (next : steps t r u) where
+  -- the stem of the next is not known
+  pub read_unknown : (x : A) → r ≡ Some x → None ≡ pin_named d (v x) → pins_named d (fields bs) ≡ None
+  read_unknown x is gone =
+      let all = slice_split (λ b. eqb b comma) bs in
+      let at = fields_at all (map v xs) (v x) (length xs) (YieldsList-so_far given xs t so_far) (YieldsList-turn given xs t so_far r u x is next) in
+      ap (pins_named d) (fields_split bs ∙ at) ∙ named_unknown d (map v xs) (drop (length xs + 1) all) (v x) gone
+
+  -- there is no next
+  pub read_all : (read : Result Pins Cause) → r ≡ None → Read d (map v xs) read → PinsRead (pins_named d (fields bs)) read
+  read_all read is h =
+      let all = fields_split bs ∙ sym (YieldsList-end given xs t so_far r u is next).0 in
+      subst (λ x. PinsRead x read) (sym (ap (pins_named d) all ∙ h.named)) h.told

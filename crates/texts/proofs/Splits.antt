@@ -1,22 +1,17 @@
 -- Bytes before and after the first of a kind, and the fields of a record.
-use Rattle.std.proofs.Common.{◌≡◌, ℕ, suc, ◌+◌, ◌-◌, ◌<◌, ◌≤◌, true, false, cond, eqb, ltb, List, [], ◌∷◌, length, take, drop, Some, None, Option, MatchOption, sym, refl, ap, ◌∙◌, ⊎_elim, inl, inr, arith}
-use Rattle.std.proofs.lemmas.List.{at_drop_all, take_all, take_rest, length-drop}
-use Rattle.std.proofs.lemmas.Bool.{cases_eq, cases_Bool, cond-true, cond-false, ltb-true, ltb-false}
-use Rattle.std.specs.List.{position, position_or_len}
+use Rattle.std.proofs.Common.{◌≡◌, ℕ, suc, ◌+◌, ◌-◌, ◌<◌, ◌≤◌, true, false, cond, eqb, ltb, List, [], ◌∷◌, length, take, drop, Some, None, Option, MatchOption, sym, refl, ap, ◌∙◌, inl, inr, arith}
+use Rattle.std.proofs.lemmas.List.{take_all, take_rest, length-drop}
+use Rattle.std.proofs.lemmas.Bool.{cases_Bool, cond-true, cond-false, ltb-true, ltb-false}
+use Rattle.std.specs.List.{position, position_or_len, slice_split, onto_first}
 use Rattle.std.proofs.lemmas.List.Recursion.{is_position_or_len}
 use Rattle.texts.specs.Records.{before, after, comma, feed, record_at, fields, in_first, fields_left}
 
-module _ (c : ℕ) where
-  -- how many bytes stand before the first that is c
-  before_length : (bs : List ℕ) → length (before c bs) ≡ position_or_len (λ b. eqb b c) bs
-  unfolding before
-  before_length bs =
-      is_position_or_len (λ xs. length (before c xs)) (λ b. eqb b c) refl
-      (λ x xs. elim (eqb x c) as (λ t. length (cond t [] (x ∷ before c xs)) ≡ cond t 0 (1 + length (before c xs))) [ true ↦ refl | false ↦ omega arith ]) bs
-
-  pub before_end : (bs : List ℕ) (i : ℕ) → length bs ≤ i → length (before c (drop i bs)) ≡ 0
-  unfolding before
-  before_end bs i h = at_drop_all (λ x. length (before c x)) bs i h
+-- how many bytes stand before the first that is c
+before_length : (c : ℕ) (bs : List ℕ) → length (before c bs) ≡ position_or_len (λ b. eqb b c) bs
+unfolding before
+before_length c bs =
+    is_position_or_len (λ xs. length (before c xs)) (λ b. eqb b c) refl
+    (λ x xs. elim (eqb x c) as (λ t. length (cond t [] (x ∷ before c xs)) ≡ cond t 0 (1 + length (before c xs))) [ true ↦ refl | false ↦ omega arith ]) bs
 
 -- front is what stands before a byte of bs, and rest what follows that byte
 pub record Cut (bs front : List ℕ) (rest : Option (List ℕ)) : Type 0 where
@@ -64,6 +59,20 @@ fields_cut (b ∷ bs) =
       | false ↦ ap (in_first b) (fields_cut bs)
     ]
 
+-- the fields in the library's words
+pub fields_split : (bs : List ℕ) → fields bs ≡ slice_split (λ b. eqb b comma) bs
+unfolding fields
+fields_split [] = refl
+fields_split (b ∷ bs) =
+    elim (eqb b comma) as (λ t. cond t ([] ∷ fields bs) (in_first b (fields bs)) ≡ cond t ([] ∷ slice_split (λ x. eqb x comma) bs) (onto_first b (slice_split (λ x. eqb x comma) bs))) [
+      | true ↦ ap (λ fs. [] ∷ fs) (fields_split bs)
+      | false ↦ ap (in_first b) (fields_split bs) ∙ same (slice_split (λ x. eqb x comma) bs)
+    ]
+  where
+    same : (fs : List (List ℕ)) → in_first b fs ≡ onto_first b fs
+    same [] = refl
+    same (f ∷ fs) = refl
+
 -- What a search for the first comma finds: n bytes before it, or all.
 pub record Parted (bs front : List ℕ) (rest : Option (List ℕ)) : Type 0 where
   pub field : front ≡ before comma bs
@@ -83,21 +92,6 @@ parted_at bs n e h =
     let k = cut comma bs in
     let l : length (before comma bs) < length bs = omega arith in
     parted bs _ _ (ap (λ m. take m bs) e ∙ k.first) (ap Some (take_rest bs (n + 1) ∙ ap (λ m. drop (m + 1) bs) e) ∙ sym (k.some l))
-
--- how much is left of a record: its bytes and the comma before them
-abbrev pub left_over : Option (List ℕ) → ℕ
-left_over None = 0
-left_over (Some bs) = suc (length bs)
-
--- what follows the byte is shorter
-pub after_less : (c : ℕ) (bs : List ℕ) (rest : Option (List ℕ)) → rest ≡ after c bs → left_over rest < suc (length bs)
-after_less c bs rest e =
-    let k = cut c bs in
-    let gone : length (before c bs) ≡ length bs → left_over rest < suc (length bs) = λ w. rw (e ∙ k.none w) (omega arith) in
-    let kept : (length (before c bs) ≡ length bs → ⊥) → left_over rest < suc (length bs) =
-    λ ne. let l : length (before c bs) < length bs = omega arith in rw (e ∙ k.some l, length-drop) (omega arith)
-    in
-    ⊎_elim gone kept (cases_eq (length (before c bs)) (length bs))
 
 -- a record lies within its text
 pub record_within : (bs : List ℕ) (place : ℕ) → place ≤ length bs → place + length (record_at bs place) ≤ length bs

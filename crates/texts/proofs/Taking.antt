@@ -12,7 +12,7 @@ use Rattle.texts.specs.declared.group.Group.TheVariants.{Inputs, Gates, Outputs}
 use Rattle.texts.specs.declared.group.RecordKind.{RecordKind}
 use Rattle.texts.specs.declared.shape.Shaped.{Shaped}
 use Rattle.texts.specs.declared.shape.Shaped.TheVariants as shaped
-use Rattle.texts.specs.Adding.{Reached, stem_named, pin_named, pins_named, GateAdded, output_cause, OutputAdded}
+use Rattle.texts.specs.Adding.{Reached, stem_named, pin_named, GateAdded, output_cause, OutputAdded}
 use Rattle.texts.specs.Fields.{marked_word, has_mark}
 use Rattle.texts.specs.Groups.{next}
 use Rattle.texts.specs.Netlist.{shape_kind, Spells, shape_cause, Declared, Taken, shapeless, late, refused, added}
@@ -24,30 +24,30 @@ abbrev a_pin : ℕ → Bool → Pin
 a_pin k m = record { stem = k; mark = m }
 
 abbrev Fitting : List ℕ → Shaped → Type 0
-Fitting bs x = (well_shaped (shape_of (fields bs) x) ≡ true) × (fields bs ≡ shape_fields (shape_of (fields bs) x))
+Fitting bs x = (well_shaped (shape_of x) ≡ true) × (fields bs ≡ shape_fields (shape_of x))
 
-spelt : (bs : List ℕ) (x : Shaped) → Fitting bs x → Spells bs (shape_of (fields bs) x)
+spelt : (bs : List ℕ) (x : Shaped) → Fitting bs x → Spells bs (shape_of x)
 spelt bs x h = record { good = h.0; parts = h.1 }
 
-kind_same : (fs : List (List ℕ)) (x : Shaped) → shaped_kind x ≡ shape_kind (shape_of fs x)
-kind_same fs (shaped.Input x) = refl
-kind_same fs (shaped.Gate x k) = refl
-kind_same fs (shaped.Output x m s) = refl
+kind_same : (x : Shaped) → shaped_kind x ≡ shape_kind (shape_of x)
+kind_same (shaped.Input x) = refl
+kind_same (shaped.Gate x k ps) = refl
+kind_same (shaped.Output x m s) = refl
 
 module _ (d : Parts) (g : Group) (bs : List ℕ) (x : Shaped) (k : RecordKind) (told : Fitting bs x) (kind : k ≡ shaped_kind x) where
-  onto : (r : Result Group Cause) → r ≡ next g k → next g (shape_kind (shape_of (fields bs) x)) ≡ r
-  onto r e = sym (e ∙ ap (next g) (kind ∙ kind_same (fields bs) x))
+  onto : (r : Result Group Cause) → r ≡ next g k → next g (shape_kind (shape_of x)) ≡ r
+  onto r e = sym (e ∙ ap (next g) (kind ∙ kind_same x))
 
   pub taken_late : (c : Cause) → Err c ≡ next g k → Taken d g bs (Err c) d
-  taken_late c e = late (shape_of (fields bs) x) c (spelt bs x told) (onto (Err c) e)
+  taken_late c e = late (shape_of x) c (spelt bs x told) (onto (Err c) e)
 
-  pub taken_refused : (y : Shaped) (g' : Group) (c : Cause) (d' : Parts) → x ≡ y → Ok g' ≡ next g k → shape_cause d (shape_of (fields bs) y) ≡ Some c → d' ≡ d → Taken d g bs (Err c) d'
+  pub taken_refused : (y : Shaped) (g' : Group) (c : Cause) (d' : Parts) → x ≡ y → Ok g' ≡ next g k → shape_cause d (shape_of y) ≡ Some c → d' ≡ d → Taken d g bs (Err c) d'
   taken_refused y g' c d' is e f same =
-      subst (Taken d g bs (Err c)) (sym same) (refused (shape_of (fields bs) x) g' c (spelt bs x told) (onto (Ok g') e) (ap (λ z. shape_cause d (shape_of (fields bs) z)) is ∙ f))
+      subst (Taken d g bs (Err c)) (sym same) (refused (shape_of x) g' c (spelt bs x told) (onto (Ok g') e) (ap (λ z. shape_cause d (shape_of z)) is ∙ f))
 
-  pub taken_added : (y : Shaped) (g' : Group) (d' : Parts) → x ≡ y → Ok g' ≡ next g k → shape_cause d (shape_of (fields bs) y) ≡ None → Declared d (shape_of (fields bs) y) d' → Taken d g bs (Ok g') d'
+  pub taken_added : (y : Shaped) (g' : Group) (d' : Parts) → x ≡ y → Ok g' ≡ next g k → shape_cause d (shape_of y) ≡ None → Declared d (shape_of y) d' → Taken d g bs (Ok g') d'
   taken_added y g' d' is e f h =
-      added (shape_of (fields bs) x) g' d' (spelt bs x told) (onto (Ok g') e) (ap (λ z. shape_cause d (shape_of (fields bs) z)) is ∙ f) (subst (λ z. Declared d (shape_of (fields bs) z) d') (sym is) h)
+      added (shape_of x) g' d' (spelt bs x told) (onto (Ok g') e) (ap (λ z. shape_cause d (shape_of z)) is ∙ f) (subst (λ z. Declared d (shape_of z) d') (sym is) h)
 
 -- The group that is reached stays in step with the parts.
 pub onward : (d : Parts) (g : Group) (s : Shape) (g' : Group) (d' : Parts) → Reached g d → next g (shape_kind s) ≡ Ok g' → Declared d s d' → Reached g' d'
@@ -66,8 +66,8 @@ onward d Outputs (gate x k ps) g' d' r e h = let z : ◌≡◌ {A = ℕ} 0 1 = c
 onward d Outputs (output x p) g' d' r e h = let same : Outputs ≡ g' = cc in subst (λ q. Reached q d') same (ap (λ q. q.rows) h.3 ∙ r)
 
 -- A part that was added is the one that the record declares.
-pub gate_declared : (d : Parts) (x : Name) (k : Kind) (fs ps : List (List ℕ)) (d' : Parts) → fs ≡ ps → GateAdded d x k fs d' → Declared d (gate (name_bytes x) k ps) d'
-gate_declared d x k fs ps d' e h = (h.gate, ap name_bytes h.named, h.of_kind, ap (pins_named d) (sym e) ∙ h.with_pins, h.added)
+pub gate_declared : (d : Parts) (x : Name) (k : Kind) (ps : List (List ℕ)) (d' : Parts) → GateAdded d x k ps d' → Declared d (gate (name_bytes x) k ps) d'
+gate_declared d x k ps d' h = (h.gate, ap name_bytes h.named, h.of_kind, h.with_pins, h.added)
 
 pub output_declared : (d : Parts) (x : Name) (m : Bool) (s : Name) (d' : Parts) → OutputAdded d x m (name_bytes s) d' → Declared d (output (name_bytes x) (marked_word m (name_bytes s))) d'
 output_declared d x m s d' h =

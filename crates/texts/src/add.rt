@@ -1,15 +1,13 @@
 //! The parts that records name, looked up in a draft and added to it.
-ghost use Rattle.std.specs.Prelude.{◌≡◌, MatchResult};
-ghost use Rattle.std.specs.Option.{option_map};
-ghost use Rattle.circuits.specs.Circuits.{name_bytes};
+ghost use Rattle.std.specs.Prelude.{◌≡◌, [], ◌∷◌, ◌++◌, length, MatchResult};
+ghost use Rattle.circuits.specs.Circuits.{name_bytes, pin_list};
 ghost use Rattle.circuits.specs.Drafts.{draft_parts, with_input};
 ghost use Rattle.texts.specs.Adding.{Settled, Reached, pin_named, pins_named, PinsRead, input_cause, gate_cause, GateAdded, output_cause, OutputAdded, RowAdded, RowRefused};
-ghost use Rattle.texts.specs.Records.{fields_left};
+ghost use Rattle.texts.specs.Records.{fields};
 
 use crate::fault::Cause;
 use crate::field::{marked, pattern_of, value_of};
 use crate::group::Group;
-use crate::record::first_field;
 use circuits::{Draft, Gate, Kind, Name, Output, Pin, Pins, SpecRow};
 
 // The pin that the field writes, if its stem is known.
@@ -22,27 +20,24 @@ fn read_pin(draft: &Draft, field: &[u8]) -> Option<Pin>
     Some(Pin { stem, mark })
 }
 
-// The pins that these fields write. It is refused where a stem is not known, and then where there are more than four.
-fn read_pins(draft: &Draft, fields: Option<&[u8]>) -> Result<Pins, Cause>
-    ensures { PinsRead (pins_named (draft_parts draft.now) (fields_left (option_map (λ x. x.now) fields.entry))) result }
+// The pins and one more. It is refused where there are four.
+fn with_pin(mut pins: Pins, pin: Pin) -> Result<Pins, Cause>
+    ensures { MatchResult result (λ p. pin_list p ≡ pin_list pins ++ pin ∷ []) (λ c. (length (pin_list pins) ≡ 4) × (c ≡ Cause.PinCount)) }
 {
-    let mut pins = Pins::none();
-    let mut room = true;
-    let mut rest = fields;
-    while let Some(record) = rest {
-        let (field, more) = first_field(record);
-        let Some(pin) = read_pin(draft, field) else {
-            return Err(Cause::Naming);
-        };
-        if pins.push(pin).is_err() {
-            room = false;
-        }
-        rest = more;
-    }
-    if !room {
-        return Err(Cause::PinCount);
-    }
+    pins.push(pin).map_err(|_| Cause::PinCount)?;
     Ok(pins)
+}
+
+// The pins that these fields write. It is refused where a stem is not known, and then where there are more than four.
+fn read_pins(draft: &Draft, pins: &[u8]) -> Result<Pins, Cause>
+    ensures { PinsRead (pins_named (draft_parts draft.now) (fields pins.now)) result }
+{
+    let mut read = Ok(Pins::none());
+    for field in pins.split(|b| *b == b',') {
+        let pin = read_pin(draft, field).ok_or(Cause::Naming)?;
+        read = read.and_then(|pins| with_pin(pins, pin));
+    }
+    read
 }
 
 // Adds an input.
@@ -55,14 +50,9 @@ pub(crate) fn add_input(draft: &mut Draft, name: Name) -> Result<(), Cause>
 }
 
 // Adds a gate whose pins are read from these fields.
-pub(crate) fn add_gate(
-    draft: &mut Draft,
-    name: Name,
-    kind: Kind,
-    fields: Option<&[u8]>,
-) -> Result<(), Cause>
+pub(crate) fn add_gate(draft: &mut Draft, name: Name, kind: Kind, pins: &[u8]) -> Result<(), Cause>
     requires { Reached Group.Gates (draft_parts draft.old) }
-    ensures { Settled (gate_cause (draft_parts draft.old) (name_bytes name) kind (fields_left (option_map (λ x. x.now) fields.entry))) (GateAdded (draft_parts draft.old) name kind (fields_left (option_map (λ x. x.now) fields.entry)) (draft_parts draft.new)) (draft_parts draft.new ≡ draft_parts draft.old) result }
+    ensures { Settled (gate_cause (draft_parts draft.old) (name_bytes name) kind (fields pins.now)) (GateAdded (draft_parts draft.old) name kind (fields pins.now) (draft_parts draft.new)) (draft_parts draft.new ≡ draft_parts draft.old) result }
 {
     if draft.gates() >= 64 {
         return Err(Cause::Limit);
@@ -70,7 +60,7 @@ pub(crate) fn add_gate(
     if draft.stem(&name).is_some() {
         return Err(Cause::Naming);
     }
-    let pins = read_pins(draft, fields)?;
+    let pins = read_pins(draft, pins)?;
     draft.add_gate(Gate { name, kind, pins })?;
     Ok(())
 }

@@ -53,9 +53,7 @@ pub(crate) fn pattern_of(field: &[u8]) -> Option<Pattern>
     let mut pattern = Pattern::none();
     for byte in field {
         let literal = literal_of(*byte)?;
-        if pattern.push(literal).is_err() {
-            return None;
-        }
+        pattern.push(literal).ok()?;
     }
     Some(pattern)
 }

@@ -10,7 +10,7 @@ use crate::add::{add_gate, add_input, add_output};
 use crate::fault::{Cause, Text, TextFault};
 use crate::group::{Group, RecordKind, next_group};
 use crate::records::Records;
-use crate::shape::{Shaped, gate_pins, netlist_shape};
+use crate::shape::{Shaped, netlist_shape};
 use circuits::Draft;
 
 // What the record declares.
@@ -36,7 +36,7 @@ fn take_record(draft: &mut Draft, group: Group, record: &[u8]) -> Result<Group, 
     let next = next_group(group, kind_of_record(&shaped))?;
     match shaped {
         Shaped::Input { name } => add_input(draft, name)?,
-        Shaped::Gate { name, kind } => add_gate(draft, name, kind, gate_pins(record))?,
+        Shaped::Gate { name, kind, pins } => add_gate(draft, name, kind, pins)?,
         Shaped::Output { name, mark, stem } => add_output(draft, name, mark, &stem)?,
     }
     Ok(next)

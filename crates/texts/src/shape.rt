@@ -3,15 +3,25 @@ mod netlist;
 mod specification;
 
 use circuits::{Kind, Name};
-pub(crate) use netlist::{gate_pins, netlist_shape};
+pub(crate) use netlist::netlist_shape;
 pub(crate) use specification::row_shape;
 
-/// A record of the netlist, but for the pins of a gate.
+/// A record of the netlist, the pins of a gate as they are written.
 #[derive(Clone, Copy)]
-pub(crate) enum Shaped {
-    Input { name: Name },
-    Gate { name: Name, kind: Kind },
-    Output { name: Name, mark: bool, stem: Name },
+pub(crate) enum Shaped<'a> {
+    Input {
+        name: Name,
+    },
+    Gate {
+        name: Name,
+        kind: Kind,
+        pins: &'a [u8],
+    },
+    Output {
+        name: Name,
+        mark: bool,
+        stem: Name,
+    },
 }
 
 /// A record of the specification: each field as it is written.

@@ -1,7 +1,6 @@
 //! The records of a netlist.
-ghost use Rattle.std.specs.Prelude.{◌≡◌, ◌∷◌, drop, codes};
-ghost use Rattle.std.specs.Option.{option_map};
-ghost use Rattle.texts.specs.Records.{fields, fields_left};
+ghost use Rattle.std.specs.Prelude.{◌≡◌, ◌∷◌, codes};
+ghost use Rattle.texts.specs.Records.{fields};
 ghost use Rattle.texts.specs.Shapes.{is_pin, all_pins, Apart};
 
 use crate::field::{kind_of, marked};
@@ -21,29 +20,11 @@ fn pin_shaped(field: &[u8]) -> bool
 fn pins_shaped(pins: &[u8]) -> bool
     ensures { result ≡ all_pins (fields pins.now) }
 {
-    let mut rest = Some(pins);
-    while let Some(record) = rest {
-        let (field, more) = first_field(record);
-        if !pin_shaped(field) {
-            return false;
-        }
-        rest = more;
-    }
-    true
-}
-
-// The pins of a gate's record: its fields from the fourth on.
-pub(crate) fn gate_pins(record: &[u8]) -> Option<&[u8]>
-    ensures { fields_left (option_map (λ x. x.now) result) ≡ drop 3 (fields «record».now) }
-{
-    let (_, rest) = first_field(record);
-    let (_, rest) = first_field(rest?);
-    let (_, pins) = first_field(rest?);
-    pins
+    pins.split(|b| *b == b',').all(pin_shaped)
 }
 
 // What follows `in,`.
-fn input_shape(record: &[u8]) -> Option<Shaped>
+fn input_shape(record: &[u8]) -> Option<Shaped<'_>>
     ensures { Apart (codes "in" ∷ fields «record».now) result }
 {
     let name = Name::new(only_field(record)?)?;
@@ -51,7 +32,7 @@ fn input_shape(record: &[u8]) -> Option<Shaped>
 }
 
 // What follows `gate,`.
-fn gate_shape(record: &[u8]) -> Option<Shaped>
+fn gate_shape(record: &[u8]) -> Option<Shaped<'_>>
     ensures { Apart (codes "gate" ∷ fields «record».now) result }
 {
     let (name, Some(rest)) = first_field(record) else {
@@ -65,11 +46,11 @@ fn gate_shape(record: &[u8]) -> Option<Shaped>
     if !pins_shaped(pins) {
         return None;
     }
-    Some(Shaped::Gate { name, kind })
+    Some(Shaped::Gate { name, kind, pins })
 }
 
 // What follows `out,`.
-fn output_shape(record: &[u8]) -> Option<Shaped>
+fn output_shape(record: &[u8]) -> Option<Shaped<'_>>
     ensures { Apart (codes "out" ∷ fields «record».now) result }
 {
     let (name, Some(rest)) = first_field(record) else {
@@ -82,7 +63,7 @@ fn output_shape(record: &[u8]) -> Option<Shaped>
 }
 
 // The record of a netlist, if it has the shape of one.
-pub(crate) fn netlist_shape(record: &[u8]) -> Option<Shaped>
+pub(crate) fn netlist_shape(record: &[u8]) -> Option<Shaped<'_>>
     ensures { Apart (fields «record».now) result }
 {
     let (word, Some(rest)) = first_field(record) else {

@@ -6,7 +6,8 @@ use Rattle.texts.specs.declared.fault.Text.TheVariants.{Netlist}
 use Rattle.texts.specs.declared.group.Group.TheVariants.{Inputs}
 use Rattle.texts.specs.Netlist.{Taken, NetlistStep, start, NetlistRefused, at_record, at_end}
 use Rattle.texts.specs.Nexts.{spot_fault, NextRecord}
-use Rattle.texts.proofs.Going.{going_none, mapped_ok, mapped_err, going_more, going_stopped, going_unended, going_all, going_end}
+use Rattle.texts.proofs.Exits.{mapped_ok, mapped_err}
+use Rattle.texts.proofs.Going.{going_none, going_more, going_stopped, going_unended, going_all, going_end}
 use Rattle.texts.proofs.Taking.{taken_left}
 use Rattle.texts.proofs.netlist.read_netlist.Goals as goal
 

@@ -1,8 +1,7 @@
-use Rattle.std.proofs.Common.{sym, refl, ap, ◌∙◌}
+use Rattle.std.proofs.Common.{refl, ◌∙◌}
 use Rattle.std.proofs.lemmas.Result.{err_from_is_err_and}
 use Rattle.circuits.specs.Circuits.{name_bytes}
 use Rattle.circuits.specs.Drafts.{draft_parts}
-use Rattle.texts.specs.Adding.{gate_cause}
 use Rattle.texts.specs.Netlist.{shapeless}
 use Rattle.texts.proofs.Taking.{taken_late, taken_refused, taken_added, onward_taken, gate_declared, output_declared, output_told}
 use Rattle.texts.proofs.netlist.take_record.Goals as goal
@@ -40,7 +39,7 @@ returns-in_err-add_gate-in-Gate c =
     let p = err_from_is_err_and c.from_residual-in_err-add_gate-in-Gate.result c.from_residual-in_err-add_gate-in-Gate.ensures.1 in
     let told = c.in_err-add_gate-in-Gate.ensures in
     rw (p.1, p.2) (record {
-      exact = taken_refused (draft_parts c.args.draft.now) c.args.group c.args.«record».now c.in-Some.shaped c.kind_of_record.result c.in-Some.ensures c.kind_of_record.ensures _ c.in_ok-next.next _ _ c.in-Gate.is c.in_ok-next.ensures (ap (gate_cause (draft_parts c.args.draft.now) (name_bytes c.in-Gate.name) c.in-Gate.kind) (sym c.gate_pins.ensures) ∙ told.0) told.1;
+      exact = taken_refused (draft_parts c.args.draft.now) c.args.group c.args.«record».now c.in-Some.shaped c.kind_of_record.result c.in-Some.ensures c.kind_of_record.ensures _ c.in_ok-next.next _ _ c.in-Gate.is c.in_ok-next.ensures told.0 told.1;
       onward = tt;
     })
 
@@ -48,7 +47,7 @@ pub returns-in_ok-add_gate-in-Gate : goal.returns-in_ok-add_gate-in-Gate
 returns-in_ok-add_gate-in-Gate c =
     let told = c.in_ok-add_gate-in-Gate.ensures in
     let exact =
-    taken_added (draft_parts c.args.draft.now) c.args.group c.args.«record».now c.in-Some.shaped c.kind_of_record.result c.in-Some.ensures c.kind_of_record.ensures _ c.in_ok-next.next _ c.in-Gate.is c.in_ok-next.ensures (ap (gate_cause (draft_parts c.args.draft.now) (name_bytes c.in-Gate.name) c.in-Gate.kind) (sym c.gate_pins.ensures) ∙ told.0) (gate_declared (draft_parts c.args.draft.now) c.in-Gate.name c.in-Gate.kind _ _ _ c.gate_pins.ensures told.1)
+    taken_added (draft_parts c.args.draft.now) c.args.group c.args.«record».now c.in-Some.shaped c.kind_of_record.result c.in-Some.ensures c.kind_of_record.ensures _ c.in_ok-next.next _ c.in-Gate.is c.in_ok-next.ensures told.0 (gate_declared (draft_parts c.args.draft.now) c.in-Gate.name c.in-Gate.kind _ _ told.1)
     in
     record { exact = exact; onward = onward_taken (draft_parts c.args.draft.now) c.args.group c.args.«record».now c.in_ok-next.next _ c.requires exact }
 

@@ -4,7 +4,8 @@ use Rattle.circuits.specs.Drafts.{draft_parts}
 use Rattle.texts.specs.declared.fault.Text.TheVariants.{Specification}
 use Rattle.texts.specs.Nexts.{spot_fault, NextRecord}
 use Rattle.texts.specs.Specification.{RowStep}
-use Rattle.texts.proofs.Going.{going_none, mapped_ok, mapped_err, going_more, going_stopped, going_unended}
+use Rattle.texts.proofs.Exits.{mapped_ok, mapped_err}
+use Rattle.texts.proofs.Going.{going_none, going_more, going_stopped, going_unended}
 use Rattle.texts.proofs.specification.read_specification.Goals as goal
 
 pub loop-spot-init : goal.loop-spot-init

@@ -1,8 +1,7 @@
-use Rattle.std.proofs.Common.{◌≡◌, true, ◌∷◌}
+use Rattle.std.proofs.Common.{◌≡◌, ◌∷◌, sym}
 use Rattle.circuits.specs.Circuits.{name_bytes}
 use Rattle.texts.specs.Fields.{kind_word}
 use Rattle.texts.specs.Records.{fields}
-use Rattle.texts.specs.Shapes.{all_pins}
 use Rattle.texts.proofs.Forms.{first_of, gate_parts}
 use Rattle.texts.proofs.shape.netlist.gate_shape.Goals as goal
 
@@ -15,5 +14,4 @@ returns c =
     let second = first_of c.first_field-2.result.1 c.in_default-Some-first_field.pins _ _ c.in_default-Some-first_field.is-1 c.first_field-2.ensures.all in
     let head : fields c.args.«record».now ≡ name_bytes c.in_ok-name.name ∷ fields c.in_default-Some.rest.now = cc in
     let next : fields c.in_default-Some.rest.now ≡ kind_word c.in_ok-kind.kind ∷ fields c.in_default-Some-first_field.pins.now = cc in
-    let all : all_pins (fields c.in_default-Some-first_field.pins.now) ≡ true = cc in
-    gate_parts (fields c.args.«record».now) (name_bytes c.in_ok-name.name) c.in_ok-kind.kind c.in_default-Some.rest.now c.in_default-Some-first_field.pins.now c.in_ok-name.name.good head next all
+    gate_parts (fields c.args.«record».now) (name_bytes c.in_ok-name.name) c.in_ok-kind.kind c.in_default-Some.rest.now c.in_default-Some-first_field.pins _ c.in_ok-name.name.good head next c.in_default-Some-first_field.pins-is (sym pins)

@@ -1,19 +1,14 @@
-use Rattle.std.proofs.Common.{sym, ◌∙◌}
+use Rattle.std.proofs.Common.{eqb, ap, sym, ◌∙◌, rules, tests}
+use Rattle.std.proofs.lemmas.Iterator.Search.{all_from_yields_List}
+use Rattle.std.proofs.lemmas.Iterator.Splits.{YieldsList-from_slice_split}
 use Rattle.texts.specs.Records.{comma}
-use Rattle.texts.proofs.Forms.{pins_bad, pins_good, pins_none}
-use Rattle.texts.proofs.Splits.{after_less}
+use Rattle.texts.specs.Shapes.{is_pin, all_pins}
+use Rattle.texts.proofs.Forms.{all_pins_all}
+use Rattle.texts.proofs.Splits.{fields_split}
 use Rattle.texts.proofs.shape.netlist.pins_shaped.Goals as goal
 
-pub returns-then-not-pin_shaped : goal.returns-then-not-pin_shaped
-returns-then-not-pin_shaped c =
-    sym (c.loop-rest.invariant ∙ pins_bad c.loop-rest.rest c.first_field.result.1 c.in-Some.«record» c.first_field.result.0.now c.in-Some.is c.first_field.ensures.all (sym c.if-not-pin_shaped.ensures))
-
-pub loop-rest-smaller : goal.loop-rest-smaller
-loop-rest-smaller c = rw c.in-Some.is (after_less comma c.in-Some.«record».now _ c.first_field.ensures.rest)
-
-pub loop-rest-preserved : goal.loop-rest-preserved
-loop-rest-preserved c =
-    c.loop-rest.invariant ∙ pins_good c.loop-rest.rest c.first_field.result.1 c.in-Some.«record» c.first_field.result.0.now c.in-Some.is c.first_field.ensures.all (sym c.if-not-pin_shaped.ensures)
-
 pub returns : goal.returns
-returns c = sym (c.loop-rest.invariant ∙ pins_none c.loop-rest.rest c.in_default.is)
+returns c =
+    all_from_yields_List is_pin _ _ c.all.result c.all.ensures.ran
+    (YieldsList-from_slice_split _ (λ b. eqb b comma) c.args.pins.now c.split.ensures.rest c.split.ensures.done c.split.ensures.closure (λ x b q k. search (rules, tests))) (λ x b q k. search (rules, tests))
+    ∙ sym (ap all_pins (fields_split c.args.pins.now) ∙ all_pins_all _)

@@ -1,0 +1,35 @@
+-- What the refusals are that are made by `ok_or` and `map_err`.
+use Rattle.std.proofs.Common.{◌≡◌, ℕ, Some, None, Ok, Err, Option, Result, MatchResult, IsErrAnd, refl, ap, subst, arith}
+use Rattle.std.specs.Option.{ok_or}
+use Rattle.std.specs.Result.{result_ok}
+use Rattle.texts.specs.declared.fault.Cause.{Cause}
+use Rattle.texts.specs.declared.fault.TextFault.{TextFault}
+
+-- nothing was there, and this is the cause
+pub lacking : {X : Type 0} (o : Option X) (c d : Cause) → Err c ≡ ok_or o d → (o ≡ None) × (c ≡ d)
+lacking None c d e = (refl, cc)
+lacking (Some x) c d e = let z : ◌≡◌ {A = ℕ} 0 1 = cc in absurd (omega arith)
+
+-- what a result without its error was
+module _ {X E : Type 0} (P : X → Type 0) (Q : E → Type 0) (r : Result X E) (cases : MatchResult r P Q) where
+  pub kept : (x : X) → Some x ≡ result_ok r → P x
+  kept x was = elim r as (λ z. MatchResult z P Q → Some x ≡ result_ok z → P x) [ Ok y ↦ λ h e. let same : y ≡ x = cc in subst P same h | Err e ↦ λ h e. let z : ◌≡◌ {A = ℕ} 0 1 = cc in absurd (omega arith) ] cases was
+
+  pub dropped : None ≡ result_ok r → (e : E) × Q e
+  dropped was = elim r as (λ z. MatchResult z P Q → None ≡ result_ok z → (e : E) × Q e) [ Ok y ↦ λ h e. let z : ◌≡◌ {A = ℕ} 0 1 = cc in absurd (omega arith) | Err e ↦ λ h f. (e, h) ] cases was
+
+-- what the result of taking a record was, by the one that tells its fault
+module _ {X : Type 0} (tells : Cause → TextFault → Type 0) (r : Result X Cause) (m : Result X TextFault) (cases : MatchResult r (λ y. m ≡ Ok y) (λ c. IsErrAnd m (tells c))) where
+  pub mapped_ok : (x : X) → m ≡ Ok x → r ≡ Ok x
+  mapped_ok x was =
+      elim r as (λ z. MatchResult z (λ y. m ≡ Ok y) (λ c. IsErrAnd m (tells c)) → z ≡ Ok x) [
+        | Ok y ↦ λ e. let same : y ≡ x = cc in ap Ok same
+        | Err c ↦ λ e. absurd (subst (λ y. IsErrAnd y (tells c)) was e)
+      ] cases
+
+  pub mapped_err : (told : Cause → TextFault) (f : TextFault) → m ≡ Err f → ((c : Cause) → tells c f → f ≡ told c) → (c : Cause) × (r ≡ Err c) × (f ≡ told c)
+  mapped_err told f was k =
+      elim r as (λ z. MatchResult z (λ y. m ≡ Ok y) (λ c. IsErrAnd m (tells c)) → (c : Cause) × (z ≡ Err c) × (f ≡ told c)) [
+        | Ok y ↦ λ e. let z : ◌≡◌ {A = ℕ} 0 1 = cc in absurd (omega arith)
+        | Err c ↦ λ e. (c, refl, k c (subst (λ y. IsErrAnd y (tells c)) was e))
+      ] cases
