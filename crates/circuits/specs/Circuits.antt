@@ -28,7 +28,6 @@ assignments c = 2 ^ length c.inputs
 abbrev pub name_bytes : Name → List ℕ
 name_bytes x = entries x.bytes
 
--- the pins of a gate, at most four
 abbrev pub Pins : Type 0
 Pins = Short Pin 4 ghosts
 

@@ -1,4 +1,4 @@
--- The literals of a pattern stand at the front of a table of twelve.
+-- What stands in the table of a pattern's literals where there is no literal.
 use Rattle.std.specs.Prelude.{Bool, true, false}
 use Rattle.circuits.specs.declared.literal.Literal.{Literal}
 use Rattle.circuits.specs.declared.literal.Literal.TheVariants.{Zero, One, Dash}

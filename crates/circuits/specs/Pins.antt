@@ -1,4 +1,4 @@
--- The pins of a gate stand at the front of a table of four.
+-- What stands in the table of a gate's pins where there is no pin.
 use Rattle.std.specs.Prelude.{Bool, not, ◌&&◌, ◌==◌}
 use Rattle.circuits.specs.declared.pin.Pin.{Pin}
 

@@ -14,10 +14,10 @@ use Rattle.circuits.specs.Lines.{place_of, place_bit}
 use Rattle.circuits.specs.Shorts.{entries}
 use Rattle.circuits.specs.Circuits.{Net, bit, assignments, carried, through, with_bit}
 
--- a literal for each input, at most twelve
 abbrev pub Pattern : Type 0
 Pattern = Short Literal 12 ghosts
 
+-- the literals of a pattern, one for each input
 abbrev pub literal_list : Pattern → List Literal
 literal_list p = entries p
 

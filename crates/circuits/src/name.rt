@@ -10,6 +10,6 @@ use crate::short::Short;
 /// A name: 1 to 8 bytes of `a` to `z` and `0` to `9`.
 #[derive(Clone, Copy, PartialEq, Eq)]
 pub struct Name {
-    pub(crate) bytes: Short<u8, 8>,
+    bytes: Short<u8, 8>,
     ghost good: { is_name (entries bytes) ≡ true },
 }

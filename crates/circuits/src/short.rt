@@ -36,6 +36,7 @@ pub struct Full;
 
 /// A list of at most `N` entries, held in the value itself: they stand at the front of a table, whose other places are
 /// blank.
+// The lists of the toolchain's arrayvec are not Copy, as names, pins and patterns are.
 #[derive(Copy)]
 pub struct Short<T: Blank, const N: usize> {
     table: [T; N],

@@ -1,4 +1,4 @@
-//! What a name is made from, its bytes, and when two names are the same.
+//! What a name is made from.
 ghost use Rattle.std.specs.Prelude.{◌≡◌, true, false, MatchOption};
 ghost use Rattle.circuits.specs.Circuits.{name_bytes};
 ghost use Rattle.circuits.specs.Names.{is_name};
@@ -30,12 +30,5 @@ impl Name {
             name.push(*byte).unwrap();
         }
         Some(Name { bytes: name })
-    }
-
-    // The bytes of the name.
-    pub(crate) fn as_bytes(&self) -> &[u8]
-        ensures { result.now ≡ name_bytes self.now }
-    {
-        self.bytes.as_slice()
     }
 }
