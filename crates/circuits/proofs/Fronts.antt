@@ -1,7 +1,6 @@
 -- Lists at the front of a table, and short lists.
 use lib.ListN.{replicate}
-use Rattle.std.proofs.Common.{◌≡◌, ℕ, zero, suc, ◌+◌, ◌<◌, ◌≤◌, Bool, true, false, ◌&&◌, eqb, leb, List, [], ◌∷◌, ◌++◌, length, get_or, take, drop, set, Ok, Err, Result, refl, ◌∙◌, subst, arith}
-use Rattle.std.specs.Result.{MatchResult, is_err}
+use Rattle.std.proofs.Common.{◌≡◌, ℕ, zero, suc, ◌+◌, ◌<◌, ◌≤◌, Bool, true, ◌&&◌, eqb, leb, List, [], ◌∷◌, ◌++◌, length, get_or, take, drop, set, refl, ◌∙◌, subst, arith}
 use Rattle.std.proofs.lemmas.List.{take_more_set, drop_more, drop-set-lt, length-set, length-take-le, length-replicate}
 use Rattle.std.proofs.lemmas.Bool.{and_parts, and_from, leb-true, le-leb, eqb-true, eq-eqb}
 use Rattle.circuits.specs.declared.short.Blank.{Ghosts}
@@ -70,12 +69,3 @@ all_blank_replicate blank (suc n) x h = and_from (blank x) (all_blank blank (rep
 pub blank_front : {X : Type 0} (blank : X → Bool) (size : ℕ) (x : X) → blank x ≡ true → holds_front blank size (replicate size x) 0 ≡ true
 blank_front blank size x h =
     front_from blank size (replicate size x) 0 (record { long = length-replicate size x; within = omega arith; rest = all_blank_replicate blank size x h })
-
--- what is said of an entry that is taken, and of one that is not
-pub where_taken : {E : Type 0} (P Q : Type 0) (r : Result Unit E) → MatchResult r (λ _. P) (λ _. Q) → is_err r ≡ false → P
-where_taken P Q (Ok x) h e = h
-where_taken P Q (Err f) h e = cc
-
-pub where_refused : {E : Type 0} (P Q : Type 0) (r : Result Unit E) → MatchResult r (λ _. P) (λ _. Q) → is_err r ≡ true → Q
-where_refused P Q (Ok x) h e = cc
-where_refused P Q (Err f) h e = h
