@@ -22,7 +22,7 @@ impl Kind {
     {
         match self {
             Kind::Buf | Kind::Not => pins == 1,
-            _ => 2 <= pins && pins <= 4,
+            _ => (2..=4).contains(&pins),
         }
     }
 
