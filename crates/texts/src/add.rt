@@ -78,9 +78,7 @@ pub(crate) fn add_output(
     if draft.outputs() >= 16 {
         return Err(Cause::Limit);
     }
-    let Some(stem) = draft.stem(stem) else {
-        return Err(Cause::Naming);
-    };
+    let stem = draft.stem(stem).ok_or(Cause::Naming)?;
     draft.add_output(Output {
         name,
         pin: Pin { stem, mark },
@@ -100,15 +98,9 @@ pub(crate) fn add_row(
     if draft.rows() >= 256 {
         return Err(Cause::Limit);
     }
-    let Some(output) = draft.output(output) else {
-        return Err(Cause::Naming);
-    };
-    let Some(pattern) = pattern_of(pattern) else {
-        return Err(Cause::Literals);
-    };
-    let Some(value) = value_of(value) else {
-        return Err(Cause::Literals);
-    };
+    let output = draft.output(output).ok_or(Cause::Naming)?;
+    let pattern = pattern_of(pattern).ok_or(Cause::Literals)?;
+    let value = value_of(value).ok_or(Cause::Literals)?;
     draft.add_row(SpecRow {
         output,
         pattern,

@@ -30,9 +30,7 @@ fn take_record(draft: &mut Draft, group: Group, record: &[u8]) -> Result<Group, 
     ensures exact { Taken (draft_parts draft.old) group «record».now result (draft_parts draft.new) }
     ensures onward { IfOk result (λ g. Reached g (draft_parts draft.new)) }
 {
-    let Some(shaped) = netlist_shape(record) else {
-        return Err(Cause::Shape);
-    };
+    let shaped = netlist_shape(record).ok_or(Cause::Shape)?;
     let next = next_group(group, kind_of_record(&shaped))?;
     match shaped {
         Shaped::Input { name } => add_input(draft, name)?,

@@ -13,12 +13,8 @@ use circuits::{Draft, Name};
 fn take_row(draft: &mut Draft, record: &[u8]) -> Result<(), Cause>
     ensures { MatchResult result (λ _. RowStep (draft_parts draft.old) «record».now (Ok (draft_parts draft.new))) (λ c. RowStep (draft_parts draft.old) «record».now (Err c)) }
 {
-    let Some(row) = row_shape(record) else {
-        return Err(Cause::Shape);
-    };
-    let Some(output) = Name::new(row.output) else {
-        return Err(Cause::Shape);
-    };
+    let row = row_shape(record).ok_or(Cause::Shape)?;
+    let output = Name::new(row.output).ok_or(Cause::Shape)?;
     add_row(draft, &output, row.pattern, row.value)
 }
 

@@ -9,25 +9,25 @@ use Rattle.texts.specs.Adding.{output_cause}
 use Rattle.texts.specs.Faults.{cause_of}
 use Rattle.texts.proofs.Additions.{output_same}
 use Rattle.texts.proofs.add.add_output.Goals as goal
-use Rattle.texts.proofs.add.add_output.Goals.{In-Some}
+use Rattle.texts.proofs.add.add_output.Goals.{In_ok-stem}
 
-abbrev made : In-Some → Output
-made c = record { name = c.args.name; pin = record { stem = c.in-Some.stem; mark = c.args.mark } }
+abbrev made : In_ok-stem → Output
+made c = record { name = c.args.name; pin = record { stem = c.in_ok-stem.stem; mark = c.args.mark } }
 
 -- What is left to check is checked by the draft.
-same : (c : In-Some) → output_cause (draft_parts c.args.draft.now) (name_bytes c.args.name) (name_bytes c.args.stem.now) ≡ option_map cause_of (output_fault (draft_parts c.args.draft.now) (made c))
+same : (c : In_ok-stem) → output_cause (draft_parts c.args.draft.now) (name_bytes c.args.name) (name_bytes c.args.stem.now) ≡ option_map cause_of (output_fault (draft_parts c.args.draft.now) (made c))
 same c =
-    output_same (draft_parts c.args.draft.now) (made c) (name_bytes c.args.stem.now) c.requires (lt-leb 16 (length (draft_parts c.args.draft.now).circuit.outputs) (omega arith)) (sym c.in-Some.ensures)
+    output_same (draft_parts c.args.draft.now) (made c) (name_bytes c.args.stem.now) c.requires (lt-leb 16 (length (draft_parts c.args.draft.now).circuit.outputs) (omega arith)) (sym c.stem.ensures ∙ c.in_ok-stem.ensures.ok_part)
 
 pub returns-in_err-add_output : goal.returns-in_err-add_output
 returns-in_err-add_output c =
-    let p = err_from_is_err_and c.from_residual.result c.from_residual.ensures.1 in
+    let p = err_from_is_err_and c.from_residual-in_err-add_output.result c.from_residual-in_err-add_output.ensures.1 in
     let told = c.in_err-add_output.ensures in
-    rw (p.1, p.2) (same (goal.at.returns-in_err-add_output c).In-Some ∙ ap (option_map cause_of) told.0, told.1)
+    rw (p.1, p.2) (same (goal.at.returns-in_err-add_output c).In_ok-stem ∙ ap (option_map cause_of) told.0, told.1)
 
 pub returns : goal.returns
 returns c =
     let told = c.in_ok-add_output.ensures in (
-      same (goal.at.returns c).In-Some ∙ ap (option_map cause_of) told.0,
-      record { output = made (goal.at.returns c).In-Some; named = refl; marked = refl; reads = sym c.in-Some.ensures; added = told.1 },
+      same (goal.at.returns c).In_ok-stem ∙ ap (option_map cause_of) told.0,
+      record { output = made (goal.at.returns c).In_ok-stem; named = refl; marked = refl; reads = sym c.stem.ensures ∙ c.in_ok-stem.ensures.ok_part; added = told.1 },
     )
