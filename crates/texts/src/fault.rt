@@ -5,14 +5,14 @@ ghost use Rattle.texts.specs.Faults.{cause_number, fault_number, read_number, of
 use circuits::PartFault;
 
 /// One of the two texts of a design.
-#[derive(Clone, Copy)]
+#[derive(Clone, Copy, Debug, PartialEq, Eq)]
 pub enum Text {
     Netlist,
     Specification,
 }
 
 /// The rule that a text or a record of it breaks.
-#[derive(Clone, Copy)]
+#[derive(Clone, Copy, Debug, PartialEq, Eq)]
 pub enum Cause {
     /// The text has more than 8,192 bytes.
     TooLong,
@@ -33,7 +33,7 @@ pub enum Cause {
 }
 
 /// A record that is refused. Where the whole text is too long, record, place and length are 0.
-#[derive(Clone, Copy)]
+#[derive(Clone, Copy, Debug, PartialEq, Eq)]
 pub struct TextFault {
     pub cause: Cause,
     pub text: Text,
@@ -46,7 +46,7 @@ pub struct TextFault {
 }
 
 /// Why reading is refused.
-#[derive(Clone, Copy)]
+#[derive(Clone, Copy, Debug, PartialEq, Eq)]
 pub enum ReadFault {
     Text(TextFault),
 }

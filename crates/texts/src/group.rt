@@ -5,7 +5,7 @@ ghost use Rattle.texts.specs.Groups.{next};
 use crate::fault::Cause;
 
 /// The group that has been reached.
-#[derive(Clone, Copy)]
+#[derive(Clone, Copy, Debug, PartialEq, Eq)]
 pub(crate) enum Group {
     Inputs,
     Gates,
@@ -13,7 +13,7 @@ pub(crate) enum Group {
 }
 
 /// What a record of the netlist declares.
-#[derive(Clone, Copy)]
+#[derive(Clone, Copy, Debug, PartialEq, Eq)]
 pub(crate) enum RecordKind {
     Input,
     Gate,

@@ -58,9 +58,8 @@ impl Reader {
         read_netlist(&mut self.draft, netlist)?;
         check_length(specification, Text::Specification)?;
         read_specification(&mut self.draft, specification)?;
-        match self.draft.complete(design) {
-            Ok(()) => Ok(()),
-            Err(_) => unreachable(),
-        }
+        // What was read has an input and an output.
+        self.draft.complete(design).unwrap();
+        Ok(())
     }
 }

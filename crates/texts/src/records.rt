@@ -7,7 +7,7 @@ use crate::fault::{Cause, Text, TextFault};
 use crate::record::find;
 
 /// Where a record is in its text.
-#[derive(Clone, Copy)]
+#[derive(Clone, Copy, Debug, PartialEq, Eq)]
 pub(crate) struct Spot {
     /// The number of the record, from 1.
     pub(crate) number: usize,

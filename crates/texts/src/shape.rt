@@ -7,7 +7,8 @@ pub(crate) use netlist::netlist_shape;
 pub(crate) use specification::row_shape;
 
 /// A record of the netlist, the pins of a gate as they are written.
-#[derive(Clone, Copy)]
+// No `Debug`: names have none.
+#[derive(Clone, Copy, PartialEq, Eq)]
 pub(crate) enum Shaped<'a> {
     Input {
         name: Name,
@@ -25,7 +26,7 @@ pub(crate) enum Shaped<'a> {
 }
 
 /// A record of the specification: each field as it is written.
-#[derive(Clone, Copy)]
+#[derive(Clone, Copy, Debug, PartialEq, Eq)]
 pub(crate) struct RowFields<'a> {
     pub(crate) output: &'a [u8],
     pub(crate) pattern: &'a [u8],
