@@ -1,7 +1,9 @@
 -- What the refusals are that are made by `ok_or` and `map_err`.
-use Rattle.std.proofs.Common.{◌≡◌, ℕ, Some, None, Ok, Err, Option, Result, MatchResult, IsErrAnd, refl, ap, subst, arith}
+use Rattle.std.proofs.Common.{◌≡◌, ℕ, Some, None, Ok, Err, Option, Result, MatchResult, IsOk, IsErrAnd, refl, ap, subst, arith}
 use Rattle.std.specs.Option.{ok_or}
 use Rattle.std.specs.Result.{result_ok}
+use Rattle.circuits.specs.declared.fault.PartFault.{PartFault}
+use Rattle.circuits.specs.Drafts.{Unless}
 use Rattle.texts.specs.declared.fault.Cause.{Cause}
 use Rattle.texts.specs.declared.fault.TextFault.{TextFault}
 
@@ -33,3 +35,8 @@ module _ {X : Type 0} (tells : Cause → TextFault → Type 0) (r : Result X Cau
         | Ok y ↦ λ e. let z : ◌≡◌ {A = ℕ} 0 1 = cc in absurd (omega arith)
         | Err c ↦ λ e. (c, refl, k c (subst (λ y. IsErrAnd y (tells c)) was e))
       ] cases
+
+-- what nothing speaks against is done
+pub done : (fault : Option PartFault) (P Q : Type 0) (r : Result Unit PartFault) → Unless fault P Q r → ((f : PartFault) → fault ≡ Some f → ⊥) → IsOk r
+done fault P Q (Ok x) h free = refl
+done fault P Q (Err f) h free = absurd (free f h.0)

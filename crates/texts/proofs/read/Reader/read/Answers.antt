@@ -1,8 +1,9 @@
 use Rattle.std.proofs.Common.{sym, refl, subst}
-use Rattle.std.proofs.lemmas.Result.{err_from_is_err_and}
+use Rattle.std.proofs.lemmas.Result.{err_from_is_err_and, MatchResult-at_ok}
 use Rattle.circuits.specs.Drafts.{design_parts, draft_parts}
 use Rattle.texts.specs.Reading.{Accepted, specification_refused}
 use Rattle.texts.specs.Specification.{SpecificationRead}
+use Rattle.texts.proofs.Exits.{done}
 use Rattle.texts.proofs.Rewritten.{accepted_writes}
 use Rattle.texts.proofs.Telling.{told, read_whole, long_netlist, refused_netlist, long_specification}
 use Rattle.texts.proofs.read.Reader.read.Goals as goal
@@ -31,17 +32,17 @@ returns-in_err-read_specification c =
     let why = specification_refused _ _ c.in_ok-check_length.ensures c.in_ok-read_netlist.ensures c.in_ok-check_length-2.ensures c.in_err-read_specification.ensures in
     rw (p.1, p.2) (record { exact = (why, refl); writing = tt; told = told c.args.netlist.now c.args.specification.now _ why })
 
-pub unreachable-requires : goal.unreachable-requires
-unreachable-requires c = read_whole c.args.netlist.now c.args.specification.now _ _ _ c.in_ok-read_netlist.ensures c.in_ok-read_specification.ensures c.in-Err.ensures.0
+pub unwrap-requires : goal.unwrap-requires
+unwrap-requires c = done _ _ _ c.complete.result c.complete.ensures (λ f. read_whole c.args.netlist.now c.args.specification.now _ _ f c.in_ok-read_netlist.ensures c.in_ok-read_specification.ensures)
 
 pub returns : goal.returns
 returns c =
-    let done = c.in-Ok.ensures in
+    let told = MatchResult-at_ok _ _ c.unwrap.result c.unwrap.ensures c.complete.ensures in
     let read : Accepted c.args.netlist.now c.args.specification.now (design_parts c.complete.new.design) = record {
       short_netlist = c.in_ok-check_length.ensures;
       circuit = draft_parts c.read_netlist.new.draft;
       netlist_read = c.in_ok-read_netlist.ensures;
       short_specification = c.in_ok-check_length-2.ensures;
-      specification_read = subst (SpecificationRead c.args.specification.now (draft_parts c.read_netlist.new.draft)) (sym done.1.0) c.in_ok-read_specification.ensures;
+      specification_read = subst (SpecificationRead c.args.specification.now (draft_parts c.read_netlist.new.draft)) (sym told.1.0) c.in_ok-read_specification.ensures;
     } in
     record { exact = read; writing = accepted_writes c.args.netlist.now c.args.specification.now _ read; told = tt }
