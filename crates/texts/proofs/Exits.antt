@@ -1,7 +1,6 @@
 -- What the refusals are that are made by `ok_or` and `map_err`.
 use Rattle.std.proofs.Common.{◌≡◌, ℕ, Some, None, Ok, Err, Option, Result, MatchResult, IsOk, IsErrAnd, refl, ap, subst, arith}
 use Rattle.std.specs.Option.{ok_or}
-use Rattle.std.specs.Result.{result_ok}
 use Rattle.circuits.specs.declared.fault.PartFault.{PartFault}
 use Rattle.circuits.specs.Drafts.{Unless}
 use Rattle.texts.specs.declared.fault.Cause.{Cause}
@@ -11,14 +10,6 @@ use Rattle.texts.specs.declared.fault.TextFault.{TextFault}
 pub lacking : {X : Type 0} (o : Option X) (c d : Cause) → Err c ≡ ok_or o d → (o ≡ None) × (c ≡ d)
 lacking None c d e = (refl, cc)
 lacking (Some x) c d e = let z : ◌≡◌ {A = ℕ} 0 1 = cc in absurd (omega arith)
-
--- what a result without its error was
-module _ {X E : Type 0} (P : X → Type 0) (Q : E → Type 0) (r : Result X E) (cases : MatchResult r P Q) where
-  pub kept : (x : X) → Some x ≡ result_ok r → P x
-  kept x was = elim r as (λ z. MatchResult z P Q → Some x ≡ result_ok z → P x) [ Ok y ↦ λ h e. let same : y ≡ x = cc in subst P same h | Err e ↦ λ h e. let z : ◌≡◌ {A = ℕ} 0 1 = cc in absurd (omega arith) ] cases was
-
-  pub dropped : None ≡ result_ok r → (e : E) × Q e
-  dropped was = elim r as (λ z. MatchResult z P Q → None ≡ result_ok z → (e : E) × Q e) [ Ok y ↦ λ h e. let z : ◌≡◌ {A = ℕ} 0 1 = cc in absurd (omega arith) | Err e ↦ λ h f. (e, h) ] cases was
 
 -- what the result of taking a record was, by the one that tells its fault
 module _ {X : Type 0} (tells : Cause → TextFault → Type 0) (r : Result X Cause) (m : Result X TextFault) (cases : MatchResult r (λ y. m ≡ Ok y) (λ c. IsErrAnd m (tells c))) where

@@ -1,7 +1,7 @@
 -- How marks and patterns are written.
-use Rattle.std.proofs.Common.{◌≡◌, ℕ, ◌+◌, ◌-◌, ◌<◌, ◌≤◌, Bool, true, false, cond, ◌&&◌, eqb, leb, List, [], ◌∷◌, ◌++◌, length, get_or, take, drop, sym, refl, ap, ◌∙◌, arith}
-use Rattle.std.proofs.lemmas.List.{take_rest, take_more, take_all, length-take-le, length-map, map_push, get_or-map}
-use Rattle.std.proofs.lemmas.Bool.{and_parts, eq-eqb, ne_eqb, true≢false}
+use Rattle.std.proofs.Common.{◌≡◌, ℕ, ◌<◌, Bool, true, false, cond, ◌&&◌, eqb, leb, List, [], ◌∷◌, length, get_or, sym, refl, ap, ◌∙◌, arith}
+use Rattle.std.proofs.lemmas.List.{length-map, get_or-map}
+use Rattle.std.proofs.lemmas.Bool.{and_parts, ne_eqb, true≢false}
 use Rattle.circuits.specs.declared.literal.Literal.{Literal}
 use Rattle.circuits.specs.declared.literal.Literal.TheVariants.{Dash}
 use Rattle.circuits.specs.declared.name.Name.{Name}
@@ -9,40 +9,11 @@ use Rattle.circuits.specs.Circuits.{name_bytes}
 use Rattle.circuits.specs.Names.{letter, letters, is_name}
 use Rattle.texts.specs.Fields.{marked_word, has_mark, past_mark, literal_byte, pattern_word}
 
--- a field that begins with a mark
-pub record Marked (bs name : List ℕ) : Type 0 where
-  pub mark : true ≡ has_mark bs
-  pub rest : name ≡ past_mark bs
-  pub written : bs ≡ 33 ∷ name
-
-pub marked_front : (bs : List ℕ) → 0 < length bs → get_or bs 0 0 ≡ 33 → Marked bs (take (length bs - 1) (drop 1 bs))
-marked_front [] h e = absurd (omega arith)
-marked_front (b ∷ bs) h e =
-    let all : take (length (b ∷ bs) - 1) bs ≡ bs = take_rest (b ∷ bs) 1 in
-    record {
-      mark = sym (eq-eqb b 33 e);
-      rest = all ∙ ap (λ t. cond t bs (b ∷ bs)) (sym (eq-eqb b 33 e));
-      written = ap (λ x. x ∷ bs) e ∙ ap (λ x. 33 ∷ x) (sym all);
-    }
-
--- A byte that is no literal spoils a pattern,
+-- A byte that is no literal spoils a pattern.
 pub bad_literal : (bs : List ℕ) (i : ℕ) → i < length bs → ((l : Literal) → get_or bs i 0 ≡ literal_byte l → ⊥) → (ls : List Literal) → bs ≡ pattern_word ls → ⊥
 bad_literal bs i h bad ls e =
     let n : length bs ≡ length ls = ap length e ∙ length-map ls literal_byte in
     bad (get_or ls i Dash) (ap (λ x. get_or x i 0) e ∙ get_or-map literal_byte ls i Dash 0 (omega arith))
-
--- and so does a thirteenth.
-pub long_pattern : (bs : List ℕ) → 12 < length bs → (ls : List Literal) → length ls ≤ 12 → bs ≡ pattern_word ls → ⊥
-long_pattern bs h ls few e = let n : length bs ≡ length ls = ap length e ∙ length-map ls literal_byte in omega arith
-
-pub pattern_length : (bs : List ℕ) (i : ℕ) (ls : List Literal) → i ≤ length bs → take i bs ≡ pattern_word ls → length ls ≡ i
-pattern_length bs i ls h e = sym (length-map ls literal_byte) ∙ (ap length (sym e) ∙ length-take-le i bs h)
-
-pub pattern_more : (bs : List ℕ) (i : ℕ) (ls : List Literal) (l : Literal) → i < length bs → get_or bs i 0 ≡ literal_byte l → take i bs ≡ pattern_word ls → take (i + 1) bs ≡ pattern_word (ls ++ l ∷ [])
-pattern_more bs i ls l h e was = take_more bs i 0 h ∙ (ap (λ x. x ++ get_or bs i 0 ∷ []) was ∙ (ap (λ b. pattern_word ls ++ b ∷ []) e ∙ sym (map_push literal_byte ls l)))
-
-pub pattern_whole : (bs : List ℕ) (i : ℕ) (ls : List Literal) → length bs ≤ i → take i bs ≡ pattern_word ls → bs ≡ pattern_word ls
-pattern_whole bs i ls h e = sym (take_all i bs h) ∙ e
 
 -- A letter is no mark, so that a name carries none.
 no_mark : (b : ℕ) → letter b ≡ true → eqb b 33 ≡ false

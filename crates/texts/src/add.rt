@@ -41,6 +41,8 @@ fn read_pins(draft: &Draft, pins: &[u8]) -> Result<Pins, Cause>
 }
 
 // Adds an input.
+// What is reached is asked here and of gates and outputs: a struct that lends the draft with its group would have to say
+// in each method that it still lends the same draft.
 pub(crate) fn add_input(draft: &mut Draft, name: Name) -> Result<(), Cause>
     requires { Reached Group.Inputs (draft_parts draft.old) }
     ensures { Settled (input_cause (draft_parts draft.old) (name_bytes name)) (draft_parts draft.new ≡ with_input (draft_parts draft.old) name) (draft_parts draft.new ≡ draft_parts draft.old) result }

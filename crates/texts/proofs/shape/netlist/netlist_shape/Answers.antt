@@ -4,17 +4,7 @@ use Rattle.std.proofs.lemmas.Bool.{ltb-true, ltb-false}
 use Rattle.texts.proofs.Forms.{apart_word}
 use Rattle.texts.proofs.shape.netlist.netlist_shape.Goals as goal
 
-pub returns-in-in : goal.returns-in-in
-returns-in-in c =
-    apart_word c.first_field.result.1 c.in_default-Some.rest _ c.first_field.result.0.now (codes "in") _ c.input_shape.result c.in_default-Some.is-1 c.in_default-Some.rest-is c.first_field.ensures.all
-    (text_from_reads c.first_field.result.0.now (codes "in") (omega (arith, ltb-true, ltb-false)) (search rules)) c.input_shape.ensures
-
 pub returns-in-gate : goal.returns-in-gate
 returns-in-gate c =
     apart_word c.first_field.result.1 c.in_default-Some.rest _ c.first_field.result.0.now (codes "gate") _ c.gate_shape.result c.in_default-Some.is-1 c.in_default-Some.rest-is c.first_field.ensures.all
     (text_from_reads c.first_field.result.0.now (codes "gate") (omega (arith, ltb-true, ltb-false)) (search rules)) c.gate_shape.ensures
-
-pub returns-in-out : goal.returns-in-out
-returns-in-out c =
-    apart_word c.first_field.result.1 c.in_default-Some.rest _ c.first_field.result.0.now (codes "out") _ c.output_shape.result c.in_default-Some.is-1 c.in_default-Some.rest-is c.first_field.ensures.all
-    (text_from_reads c.first_field.result.0.now (codes "out") (omega (arith, ltb-true, ltb-false)) (search rules)) c.output_shape.ensures
