@@ -1,5 +1,6 @@
 -- Records as they are written.
-use Rattle.std.proofs.Common.{◌≡◌, ℕ, zero, suc, ◌+◌, ◌<◌, eqb, List, [], ◌∷◌, ◌++◌, length, take, drop, sym, refl, ap, ◌∙◌, inl, inr, append_assoc, append-nil, arith, length-drop}
+use Rattle.std.proofs.Common.{◌≡◌, ℕ, suc, ◌+◌, ◌<◌, eqb, List, [], ◌∷◌, ◌++◌, length, take, drop, sym, refl, ap, ◌∙◌, inl, inr, append_assoc, append-nil, arith, length-drop}
+use Rattle.std.proofs.Math.Seq.{take-add}
 use Rattle.std.proofs.lemmas.Bool.{cases_Bool, eqb-true}
 use Rattle.texts.specs.Fields.{marked_word, has_mark, past_mark}
 use Rattle.texts.specs.Records.{before, feed, comma, record_at, fields, in_first}
@@ -43,19 +44,10 @@ before_feed c (b ∷ bs) l =
           rw n (ap (λ k. take k (b ∷ bs)) i ∙ ap (λ x. b ∷ x) (before_feed c bs (omega arith)))
     ]
 
-take_nothing : (k : ℕ) → take {A = ℕ} k [] ≡ []
-take_nothing zero = refl
-take_nothing (suc k) = refl
-
-take_then : (p k : ℕ) (bs : List ℕ) → take (p + k) bs ≡ take p bs ++ take k (drop p bs)
-take_then zero k bs = let i : 0 + k ≡ k = omega arith in ap (λ x. take x bs) i
-take_then (suc p) k [] = let i : suc p + k ≡ suc (p + k) = omega arith in ap (λ x. take {A = ℕ} x []) i ∙ sym (take_nothing k)
-take_then (suc p) k (b ∷ bs) = let i : suc p + k ≡ suc (p + k) = omega arith in ap (λ x. take x (b ∷ bs)) i ∙ ap (λ x. b ∷ x) (take_then p k bs)
-
 pub record_next : (bs : List ℕ) (place : ℕ) → place + length (record_at bs place) < length bs → take (place + length (record_at bs place) + 1) bs ≡ take place bs ++ (record_at bs place ++ feed ∷ [])
 record_next bs place l =
     let i : place + length (record_at bs place) + 1 ≡ place + (length (record_at bs place) + 1) = omega arith in
-    ap (λ x. take x bs) i ∙ (take_then place (length (record_at bs place) + 1) bs ∙ ap (λ x. take place bs ++ x) (before_feed feed (drop place bs) (omega (arith, length-drop place bs))))
+    ap (λ x. take x bs) i ∙ (take-add place (length (record_at bs place) + 1) bs ∙ ap (λ x. take place bs ++ x) (before_feed feed (drop place bs) (omega (arith, length-drop place bs))))
 
 pub lines_more : {X : Type 0} (f : X → List ℕ) (xs : List X) (x : X) → lines f (xs ++ x ∷ []) ≡ lines f xs ++ f x
 unfolding lines
