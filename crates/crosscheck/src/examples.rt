@@ -1,5 +1,5 @@
 //! Worked examples.
-use circuits::Design;
+use circuits::{Design, Full, Pin, Pins};
 use std::test::Fail;
 use texts::{ReadFault, Reader, TextFault};
 
@@ -57,5 +57,17 @@ fn the_faulty_record_is_lent(rt: HostRuntime) -> Result<(), Fail> {
     assert!(rt; fault.word(netlist, spec) == b"spec,y,-,1".as_slice());
     // a text in which no such record lies
     assert!(rt; fault.word(netlist, b"spec").is_empty());
+    Ok(())
+}
+
+#[test]
+fn a_fifth_pin_is_refused(rt: HostRuntime) -> Result<(), Fail> {
+    let mut pins = Pins::none();
+    for stem in 0..4 {
+        assert!(rt; pins.push(Pin { stem, mark: true }).is_ok());
+    }
+    let four = pins.clone()?;
+    assert_eq!(rt; pins.push(Pin { stem: 4, mark: true }), Err(Full));
+    assert!(rt; pins == four && pins != Pins::none());
     Ok(())
 }
