@@ -9,7 +9,7 @@ use anyhow::anyhow;
 use circuits::{Counts, Design};
 use std::alloc::{AllocError, Global};
 use std::{fs, io};
-use texts::{ReadFault, Reader, Text, TextFault};
+use texts::{ReadFault, Reader, TextFault};
 
 // The file's bytes, or none where there is no such file.
 fn find(rt: &HostRuntime, path: &str) -> io::Result<Option<Vec<u8>>> {
@@ -85,11 +85,7 @@ fn print_fault(rt: &HostRuntime, fault: ReadFault) -> anyhow::Result<()> {
         },
     ) = fault;
     let number = cause.number();
-    let letter = match text {
-        Text::Netlist => 'n',
-        Text::Specification => 's',
-    };
-    println!(rt; "stop,{number},{letter},{record},{place},{length}")?;
+    println!(rt; "stop,{number},{text},{record},{place},{length}")?;
     Ok(())
 }
 

@@ -2,11 +2,9 @@
 use Rattle.std.specs.Prelude.{ℕ, List, ◌++◌, length, codes, decimal}
 use Rattle.circuits.specs.Drafts.{Parts}
 use Rattle.circuits.specs.Specification.{misses}
-use Rattle.texts.specs.Faults.{read_number}
+use Rattle.texts.specs.Faults.{read_number, text_letter}
 use Rattle.texts.specs.declared.fault.ReadFault.{ReadFault}
 use Rattle.texts.specs.declared.fault.ReadFault.TheVariants as read
-use Rattle.texts.specs.declared.fault.Text.{Text}
-use Rattle.texts.specs.declared.fault.Text.TheVariants.{Netlist, Specification}
 
 -- job, and four numbers
 abbrev pub job_numbers_bytes : ℕ → ℕ → ℕ → ℕ → List ℕ
@@ -16,11 +14,6 @@ job_numbers_bytes a b c d = codes "job," ++ (decimal a ++ (codes "," ++ (decimal
 abbrev pub job_row_bytes : Parts → List ℕ
 job_row_bytes d = job_numbers_bytes (length d.circuit.inputs) (length d.circuit.gates) (length d.circuit.outputs) (misses d.circuit d.rows)
 
--- the letter of a text
-abbrev pub text_letter_bytes : Text → List ℕ
-text_letter_bytes Netlist = codes "n"
-text_letter_bytes Specification = codes "s"
-
 -- stop, a number, a letter, and three numbers
 abbrev pub stop_numbers_bytes : ℕ → List ℕ → ℕ → ℕ → ℕ → List ℕ
 stop_numbers_bytes a t b c d =
@@ -28,4 +21,4 @@ stop_numbers_bytes a t b c d =
 
 -- the row of a fault: its number, its text, and the number, place and length of the record
 abbrev pub stop_row_bytes : ReadFault → List ℕ
-stop_row_bytes (read.Text f) = stop_numbers_bytes (read_number (read.Text f)) (text_letter_bytes f.text) f.«record» f.place f.length
+stop_row_bytes (read.Text f) = stop_numbers_bytes (read_number (read.Text f)) (text_letter f.text) f.«record» f.place f.length

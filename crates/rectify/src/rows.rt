@@ -1,11 +1,11 @@
 //! The rows of the report.
 ghost use Rattle.std.specs.Prelude.{◌≡◌, IfOk, string_bytes};
 ghost use Rattle.circuits.specs.Drafts.{design_parts};
-ghost use Rattle.rectify.specs.Rows.{job_row_bytes, text_letter_bytes, stop_row_bytes};
+ghost use Rattle.rectify.specs.Rows.{job_row_bytes, stop_row_bytes};
 
 use circuits::{Counts, Design};
 use std::alloc::{AllocError, Global};
-use texts::{ReadFault, Text, TextFault};
+use texts::{ReadFault, TextFault};
 
 /// The row of a design: how many inputs, gates and outputs it has, and how many outputs do not meet their rows.
 pub fn job_row(heap: Global, design: &Design) -> Result<String, AllocError>
@@ -18,16 +18,6 @@ pub fn job_row(heap: Global, design: &Design) -> Result<String, AllocError>
     } = design.counts();
     let misses = design.misses();
     format!(in heap; "job,{inputs},{gates},{outputs},{misses}\n")
-}
-
-// The letter that stands for a text.
-fn text_letter(text: Text) -> &'static str
-    ensures { result.now ≡ text_letter_bytes text }
-{
-    match text {
-        Text::Netlist => "n",
-        Text::Specification => "s",
-    }
 }
 
 /// The row of a fault: its number, its text, and the number, place and length of the record.
@@ -44,6 +34,5 @@ pub fn stop_row(heap: Global, fault: ReadFault) -> Result<String, AllocError>
         },
     ) = fault;
     let number = cause.number();
-    let letter = text_letter(text);
-    format!(in heap; "stop,{number},{letter},{record},{place},{length}\n")
+    format!(in heap; "stop,{number},{text},{record},{place},{length}\n")
 }

@@ -1,8 +1,9 @@
 //! Why a text is refused, and where.
-ghost use Rattle.std.specs.Prelude.{◌≡◌};
-ghost use Rattle.texts.specs.Faults.{cause_number, fault_number, read_number, of_text, cause_of};
+ghost use Rattle.std.specs.Prelude.{◌≡◌, Some};
+ghost use Rattle.texts.specs.Faults.{cause_number, fault_number, read_number, of_text, cause_of, text_letter};
 
 use circuits::PartFault;
+use std::fmt;
 
 /// One of the two texts of a design.
 #[derive(Clone, Copy, Debug, PartialEq, Eq)]
@@ -49,6 +50,18 @@ pub struct TextFault {
 #[derive(Clone, Copy, Debug, PartialEq, Eq)]
 pub enum ReadFault {
     Text(TextFault),
+}
+
+/// A text is told by its letter.
+impl fmt::Display for Text {
+    ghost output = { λ t. Some (text_letter t) };
+
+    fn fmt<W: fmt::Write>(&self, f: &mut fmt::Formatter<W>) -> fmt::Result {
+        f.write_str(match self {
+            Text::Netlist => "n",
+            Text::Specification => "s",
+        })
+    }
 }
 
 impl Cause {
