@@ -1,7 +1,5 @@
 -- A design that is being read: what speaks against a further part, and what it becomes with it.
-use Rattle.std.specs.Prelude.{◌≡◌, Bool, false, cond, not, ◌||◌, List, [], ◌∷◌, ◌++◌, map, length, Some, None, vec_items, Option, Result, MatchResult, ◌==◌, nat_le}
-use Rattle.circuits.specs.declared.design.Design.{Design}
-use Rattle.circuits.specs.declared.draft.Draft.{Draft}
+use Rattle.std.specs.Prelude.{◌≡◌, Bool, false, cond, not, ◌||◌, List, [], ◌∷◌, ◌++◌, map, length, Some, None, Option, Result, MatchResult, ◌==◌, nat_le}
 use Rattle.circuits.specs.declared.gate.Gate.{Gate}
 use Rattle.circuits.specs.declared.gate.Output.{Output}
 use Rattle.circuits.specs.declared.name.Name.{Name}
@@ -9,7 +7,7 @@ use Rattle.circuits.specs.declared.fault.PartFault.{PartFault}
 use Rattle.circuits.specs.declared.fault.PartFault.TheVariants.{Order, Limit, Naming, PinCount, Literals, Contradiction}
 use Rattle.circuits.specs.declared.row.SpecRow.{SpecRow}
 use Rattle.circuits.specs.Kinds.{fits}
-use Rattle.circuits.specs.Circuits.{Net, net, name_bytes, pins_of}
+use Rattle.circuits.specs.Circuits.{Net, name_bytes, pins_of}
 use Rattle.circuits.specs.Lines.{stem_count}
 use Rattle.circuits.specs.Specification.{literals_of}
 use Rattle.circuits.specs.Legality.{among, stem_names, output_names, pins_read, agrees}
@@ -18,12 +16,6 @@ use Rattle.circuits.specs.Legality.{among, stem_names, output_names, pins_read, 
 pub record Parts : Type 0 where
   pub circuit : Net
   pub rows : List SpecRow
-
-abbrev pub draft_parts : Draft → Parts
-draft_parts d = record { circuit = net d.circuit; rows = vec_items d.rows }
-
-abbrev pub design_parts : Design → Parts
-design_parts d = draft_parts d.draft
 
 abbrev pub no_parts : Parts
 no_parts = record { circuit = record { inputs = []; gates = []; outputs = [] }; rows = [] }

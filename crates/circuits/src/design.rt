@@ -1,6 +1,5 @@
 //! A circuit with the rows that its outputs have to meet.
 ghost use Rattle.std.specs.Prelude.{◌≡◌, true};
-ghost use Rattle.circuits.specs.Circuits.{net};
 ghost use Rattle.circuits.specs.Legality.{legal};
 
 mod bits;
@@ -15,5 +14,5 @@ use crate::draft::Draft;
 #[derive(Drop)]
 pub struct Design {
     pub(crate) draft: Draft,
-    ghost lawful: { legal (net draft.circuit) draft.rows.items ≡ true },
+    ghost lawful: { legal draft.circuit draft.rows ≡ true },
 }

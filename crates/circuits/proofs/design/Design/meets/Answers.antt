@@ -2,7 +2,6 @@ use Rattle.std.proofs.Common.{◌≡◌, ℕ, sym, refl, ap, ◌∙◌, arith, r
 use Rattle.std.proofs.lemmas.Iterator.{YieldsList-from_range}
 use Rattle.std.proofs.lemmas.Iterator.Search.{all_from_yields_List}
 use Rattle.circuits.specs.Circuits.{carried, through}
-use Rattle.circuits.specs.Drafts.{design_parts}
 use Rattle.circuits.specs.Specification.{bound, obeys, each_below}
 use Rattle.circuits.proofs.Agreeing.{meets_rows}
 use Rattle.circuits.proofs.Recursions.{each_below_all}
@@ -12,7 +11,7 @@ use Rattle.circuits.proofs.design.Design.meets.Goals as goal
 
 pub returns : goal.returns
 returns c =
-    let d = design_parts c.args.self.now in
+    let d = c.args.self.now.draft in
     let t = λ (a : ℕ). obeys (bound d.rows c.args.output a) (through c.in_ok-pin.pin (carried d.circuit a)) in
     let n = c.assignments.result in
     let each : c.all.result ≡ each_below n t =

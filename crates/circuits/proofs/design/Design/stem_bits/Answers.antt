@@ -1,5 +1,5 @@
 use Rattle.std.proofs.Common.{length, ap, ◌∙◌}
-use Rattle.circuits.specs.Circuits.{net, nothing}
+use Rattle.circuits.specs.Circuits.{nothing}
 use Rattle.circuits.proofs.Rules.{design_keeps}
 use Rattle.circuits.proofs.Working.{stems_length}
 use Rattle.circuits.proofs.design.Design.stem_bits.Goals as goal
@@ -10,4 +10,4 @@ stem_bits-requires c =
     record { inputs = r.few_inputs; gates = r.few_gates; legal = r.gates_good }
 
 pub returns-clause-one_each : goal.returns-clause-one_each
-returns-clause-one_each c = ap length c.stem_bits.ensures ∙ stems_length nothing (net c.args.self.now.draft.circuit) c.args.assignment
+returns-clause-one_each c = ap length c.stem_bits.ensures ∙ stems_length nothing c.args.self.now.draft.circuit c.args.assignment
