@@ -1,7 +1,6 @@
 -- The rules that a design or a draft keeps, one by one.
 use Rattle.std.proofs.Common.{◌≡◌, ℕ, ◌≤◌, true, ◌&&◌, leb, List, length}
 use Rattle.std.proofs.lemmas.Bool.{and_parts, and_from, leb-true, le-leb}
-use Rattle.circuits.specs.declared.design.Design.{Design}
 use Rattle.circuits.specs.declared.row.SpecRow.{SpecRow}
 use Rattle.circuits.specs.Circuits.{Net}
 use Rattle.circuits.specs.Lines.{stem_count}
@@ -79,9 +78,6 @@ legal_from c rows k =
 -- the rules of a whole design
 unfoldable pub design_rules : (c : Net) (rows : List SpecRow) → legal c rows ≡ true → Rules c rows
 design_rules c rows h = rules c rows (whole c rows h).draft
-
-pub design_keeps : (d : Design) → Rules d.draft.circuit d.draft.rows
-design_keeps d = design_rules d.draft.circuit d.draft.rows d.lawful
 
 -- room for all that there may be
 pub record Room (i g o r : ℕ) : Type 0 where

@@ -1,5 +1,7 @@
 -- A design that is being read: what speaks against a further part, and what it becomes with it.
-use Rattle.std.specs.Prelude.{◌≡◌, Bool, false, cond, not, ◌||◌, List, [], ◌∷◌, ◌++◌, map, length, Some, None, Option, Result, MatchResult, ◌==◌, nat_le}
+use Rattle.std.specs.Prelude.{◌≡◌, Bool, false, cond, not, ◌||◌, List, [], ◌∷◌, ◌++◌, map, length, Some, None, vec_items, Vec, Option, Result, MatchResult, ◌==◌, nat_le}
+use Rattle.std.specs.declared.alloc.Global.{Global}
+use Rattle.circuits.specs.declared.circuit.Circuit.{Circuit}
 use Rattle.circuits.specs.declared.gate.Gate.{Gate}
 use Rattle.circuits.specs.declared.gate.Output.{Output}
 use Rattle.circuits.specs.declared.name.Name.{Name}
@@ -7,7 +9,7 @@ use Rattle.circuits.specs.declared.fault.PartFault.{PartFault}
 use Rattle.circuits.specs.declared.fault.PartFault.TheVariants.{Order, Limit, Naming, PinCount, Literals, Contradiction}
 use Rattle.circuits.specs.declared.row.SpecRow.{SpecRow}
 use Rattle.circuits.specs.Kinds.{fits}
-use Rattle.circuits.specs.Circuits.{Net, name_bytes, pins_of}
+use Rattle.circuits.specs.Circuits.{Net, net, name_bytes, pins_of}
 use Rattle.circuits.specs.Lines.{stem_count}
 use Rattle.circuits.specs.Specification.{literals_of}
 use Rattle.circuits.specs.Legality.{among, stem_names, output_names, pins_read, agrees}
@@ -16,6 +18,9 @@ use Rattle.circuits.specs.Legality.{among, stem_names, output_names, pins_read, 
 pub record Parts : Type 0 where
   pub circuit : Net
   pub rows : List SpecRow
+
+abbrev pub parts : Circuit → Vec SpecRow Global → Parts
+parts c rows = record { circuit = net c; rows = vec_items rows }
 
 abbrev pub no_parts : Parts
 no_parts = record { circuit = record { inputs = []; gates = []; outputs = [] }; rows = [] }

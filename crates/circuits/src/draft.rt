@@ -13,14 +13,14 @@ pub struct Draft {
 }
 
 impl Model for Draft {
-    ghost use Rattle.std.specs.Prelude.{◌≡◌, true, vec_capacity, vec_items};
+    ghost use Rattle.std.specs.Prelude.{◌≡◌, true, vec_capacity};
     ghost use Rattle.circuits.specs.Circuits.{net};
-    ghost use Rattle.circuits.specs.Drafts.{Parts};
+    ghost use Rattle.circuits.specs.Drafts.{Parts, parts};
     ghost use Rattle.circuits.specs.Legality.{drafted, roomy};
 
     ghost Value = { Parts };
 
-    ghost view = { λ d. record { circuit = net d.circuit; rows = vec_items d.rows } };
+    ghost view = { λ d. parts d.circuit d.rows };
 
     ghost invariant = { λ d. record { lawful : drafted (net d.circuit) d.rows.items ≡ true; room : roomy (vec_capacity d.circuit.inputs) (vec_capacity d.circuit.gates) (vec_capacity d.circuit.outputs) (vec_capacity d.rows) ≡ true } };
 }

@@ -19,7 +19,7 @@ fn count_pins(gates: &[Gate]) -> usize
 impl Design {
     /// How many inputs, gates and outputs there are.
     pub fn counts(&self) -> Counts
-        ensures { result ≡ record { inputs = length self.now.draft.circuit.inputs; gates = length self.now.draft.circuit.gates; outputs = length self.now.draft.circuit.outputs } }
+        ensures { result ≡ record { inputs = length self.now.circuit.inputs; gates = length self.now.circuit.gates; outputs = length self.now.circuit.outputs } }
     {
         let inputs = self.draft.circuit.inputs.len();
         let gates = self.draft.circuit.gates.len();
@@ -33,9 +33,9 @@ impl Design {
 
     /// The place of a line, or none past the last line.
     pub fn place(&self, line: usize) -> Option<Place>
-        ensures value { result ≡ place_of self.now.draft.circuit line }
-        ensures exists { is_some result ≡ nat_lt line (line_count self.now.draft.circuit) }
-        ensures back { (p : Place) → result ≡ Some p → line_of self.now.draft.circuit p ≡ Some line }
+        ensures value { result ≡ place_of self.now.circuit line }
+        ensures exists { is_some result ≡ nat_lt line (line_count self.now.circuit) }
+        ensures back { (p : Place) → result ≡ Some p → line_of self.now.circuit p ≡ Some line }
     {
         let stems = self.draft.circuit.stems();
         if line < stems {
@@ -57,8 +57,8 @@ impl Design {
 
     /// The number of the line at a place, or none where there is no such stem or pin.
     pub fn line(&self, place: Place) -> Option<usize>
-        ensures value { result ≡ line_of self.now.draft.circuit place }
-        ensures back { (l : ℕ) → result ≡ Some l → place_of self.now.draft.circuit l ≡ Some place }
+        ensures value { result ≡ line_of self.now.circuit place }
+        ensures back { (l : ℕ) → result ≡ Some l → place_of self.now.circuit l ≡ Some place }
     {
         match place {
             Place::Stem(stem) => (stem < self.draft.circuit.stems()).then_some(stem),
@@ -68,7 +68,7 @@ impl Design {
 
     // The number of the line at a position of a gate.
     fn pin_line(&self, gate: usize, position: usize) -> Option<usize>
-        ensures { result ≡ line_of self.now.draft.circuit (Place.Pin gate position) }
+        ensures { result ≡ line_of self.now.circuit (Place.Pin gate position) }
     {
         self.pin(gate, position)?;
         let before = count_pins(&self.draft.circuit.gates[..gate]);

@@ -14,8 +14,8 @@ use crate::row::bound_value;
 impl Design {
     // Whether an output that is read through this pin has its bound value at an assignment.
     fn obeys_at(&self, pin: Pin, output: usize, assignment: usize) -> bool
-        requires { pin.stem < stem_count self.now.draft.circuit }
-        ensures { result ≡ obeys (bound self.now.draft.rows output assignment) (through pin (carried self.now.draft.circuit assignment)) }
+        requires { pin.stem < stem_count self.now.circuit }
+        ensures { result ≡ obeys (bound self.now.rows output assignment) (through pin (carried self.now.circuit assignment)) }
     {
         let bound = bound_value(self.draft.rows.as_slice(), output, assignment);
         bound.is_none_or(|value| value == pin.get(self.stem_bits(assignment).as_slice()))
@@ -23,8 +23,8 @@ impl Design {
 
     /// Whether an output has its bound value wherever it is bound. None where there is no such output.
     pub fn meets(&self, output: usize) -> Option<bool>
-        ensures rows { (x : Output) → slice_get self.now.draft.circuit.outputs output ≡ Some x → (result ≡ Some true) ↔ Obeyed self.now.draft.circuit self.now.draft.rows output x }
-        ensures value { result ≡ option_map (meets self.now.draft.circuit self.now.draft.rows output) (slice_get self.now.draft.circuit.outputs output) }
+        ensures rows { (x : Output) → slice_get self.now.circuit.outputs output ≡ Some x → (result ≡ Some true) ↔ Obeyed self.now.circuit self.now.rows output x }
+        ensures value { result ≡ option_map (meets self.now.circuit self.now.rows output) (slice_get self.now.circuit.outputs output) }
     {
         let pin = self.output_pin(output)?;
         Some((0..self.assignments()).all(|assignment| self.obeys_at(pin, output, assignment)))
@@ -32,15 +32,15 @@ impl Design {
 
     // Whether there is such an output and it does not meet its rows.
     fn is_missed(&self, output: usize) -> bool
-        ensures { result ≡ unwrap_or (option_map (λ x. not (meets self.now.draft.circuit self.now.draft.rows output x)) (slice_get self.now.draft.circuit.outputs output)) false }
+        ensures { result ≡ unwrap_or (option_map (λ x. not (meets self.now.circuit self.now.rows output x)) (slice_get self.now.circuit.outputs output)) false }
     {
         self.meets(output) == Some(false)
     }
 
     /// How many outputs do not meet their rows. None does where what each line carries repairs it, and only there.
     pub fn misses(&self) -> usize
-        ensures repaired { (result ≡ 0) ↔ Repaired self.now.draft.circuit self.now.draft.rows }
-        ensures value { result ≡ misses self.now.draft.circuit self.now.draft.rows }
+        ensures repaired { (result ≡ 0) ↔ Repaired self.now.circuit self.now.rows }
+        ensures value { result ≡ misses self.now.circuit self.now.rows }
     {
         (0..self.draft.circuit.outputs.len())
             .filter(|output| self.is_missed(*output))

@@ -12,7 +12,7 @@ use std::alloc::{AllocError, Global};
 impl Design {
     /// The smallest design: an input `a`, and an output `a` that reads it. It has room for all that a design may have.
     pub fn new(heap: Global) -> Result<Design, AllocError>
-        ensures { IfOk result (λ d. Smallest d.draft) }
+        ensures { IfOk result (λ d. Smallest d) }
     {
         let mut draft = Draft::new(heap)?;
         let name = Name::new(b"a").unwrap();

@@ -167,7 +167,7 @@ impl Draft {
 
     /// Hands the design over and takes what was there in exchange. It is refused where there is no input or no output.
     pub fn complete(&mut self, design: &mut Design) -> Result<(), PartFault>
-        ensures { Unless (whole_fault self.old) ((design.new.draft ≡ self.old) × (self.new ≡ design.old.draft)) ((design.new.draft ≡ design.old.draft) × (self.new ≡ self.old)) result }
+        ensures { Unless (whole_fault self.old) ((design.new ≡ self.old) × (self.new ≡ design.old)) ((design.new ≡ design.old) × (self.new ≡ self.old)) result }
     {
         if self.circuit.inputs.is_empty() || self.circuit.outputs.is_empty() {
             return Err(PartFault::Limit);

@@ -11,7 +11,7 @@ use Rattle.circuits.proofs.design.Design.meets.Goals as goal
 
 pub returns : goal.returns
 returns c =
-    let d = c.args.self.now.draft in
+    let d = c.args.self.now in
     let t = λ (a : ℕ). obeys (bound d.rows c.args.output a) (through c.in_ok-pin.pin (carried d.circuit a)) in
     let n = c.assignments.result in
     let each : c.all.result ≡ each_below n t =

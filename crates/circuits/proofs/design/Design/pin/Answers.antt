@@ -7,6 +7,6 @@ use Rattle.circuits.proofs.design.Design.pin.Goals as goal
 
 pub returns-clause-reads : goal.returns-clause-reads
 returns-clause-reads c =
-    let n = c.args.self.now.draft.circuit in
+    let n = c.args.self.now.circuit in
     let value : c.copied.result ≡ pin_at n.gates c.args.gate c.args.position = search (rules, gets) in
     rw value (pin_at_reads _ n.gates c.args.gate c.args.position (design_keeps c.args.self.now).gates_good)

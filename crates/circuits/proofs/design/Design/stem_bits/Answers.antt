@@ -10,4 +10,4 @@ stem_bits-requires c =
     record { inputs = r.few_inputs; gates = r.few_gates; legal = r.gates_good }
 
 pub returns-clause-one_each : goal.returns-clause-one_each
-returns-clause-one_each c = ap length c.stem_bits.ensures ∙ stems_length nothing c.args.self.now.draft.circuit c.args.assignment
+returns-clause-one_each c = ap length c.stem_bits.ensures ∙ stems_length nothing c.args.self.now.circuit c.args.assignment
