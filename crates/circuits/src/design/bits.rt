@@ -18,7 +18,7 @@ impl Design {
     pub(super) fn assignments(&self) -> usize
         ensures { result ≡ assignments self.now.circuit }
     {
-        1 << self.draft.circuit.inputs.len()
+        1 << self.draft.inputs()
     }
 
     // The bits of the stems at an assignment.
@@ -26,7 +26,7 @@ impl Design {
         ensures bits { entries result ≡ carried self.now.circuit assignment }
         ensures one_each { length (entries result) ≡ stem_count self.now.circuit }
     {
-        self.draft.circuit.stem_bits(assignment)
+        self.draft.circuit().stem_bits(assignment)
     }
 
     // The pin at a position of a gate, if there is one.
@@ -35,7 +35,7 @@ impl Design {
         ensures reads { IfSome result (λ p. p.stem < stem_count self.now.circuit) }
     {
         self.draft
-            .circuit
+            .circuit()
             .gates
             .get(gate)?
             .pins
@@ -50,7 +50,7 @@ impl Design {
         ensures reads { IfSome result (λ p. p.stem < stem_count self.now.circuit) }
     {
         self.draft
-            .circuit
+            .circuit()
             .outputs
             .get(output)
             .map(|output| output.pin)

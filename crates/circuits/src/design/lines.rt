@@ -21,9 +21,9 @@ impl Design {
     pub fn counts(&self) -> Counts
         ensures { result ≡ record { inputs = length self.now.circuit.inputs; gates = length self.now.circuit.gates; outputs = length self.now.circuit.outputs } }
     {
-        let inputs = self.draft.circuit.inputs.len();
-        let gates = self.draft.circuit.gates.len();
-        let outputs = self.draft.circuit.outputs.len();
+        let inputs = self.draft.inputs();
+        let gates = self.draft.gates();
+        let outputs = self.draft.outputs();
         Counts {
             inputs,
             gates,
@@ -37,12 +37,13 @@ impl Design {
         ensures exists { is_some result ≡ nat_lt line (line_count self.now.circuit) }
         ensures back { (p : Place) → result ≡ Some p → line_of self.now.circuit p ≡ Some line }
     {
-        let stems = self.draft.circuit.stems();
+        let circuit = self.draft.circuit();
+        let stems = circuit.stems();
         if line < stems {
             return Some(Place::Stem(line));
         }
         let mut left = line - stems;
-        for (number, gate) in self.draft.circuit.gates.iter().enumerate() {
+        for (number, gate) in circuit.gates.iter().enumerate() {
             let pins = gate.pins.as_slice().len();
             if left < pins {
                 return Some(Place::Pin {
@@ -61,7 +62,7 @@ impl Design {
         ensures back { (l : ℕ) → result ≡ Some l → place_of self.now.circuit l ≡ Some place }
     {
         match place {
-            Place::Stem(stem) => (stem < self.draft.circuit.stems()).then_some(stem),
+            Place::Stem(stem) => (stem < self.draft.circuit().stems()).then_some(stem),
             Place::Pin { gate, position } => self.pin_line(gate, position),
         }
     }
@@ -71,7 +72,8 @@ impl Design {
         ensures { result ≡ line_of self.now.circuit (Place.Pin gate position) }
     {
         self.pin(gate, position)?;
-        let before = count_pins(&self.draft.circuit.gates[..gate]);
-        Some(self.draft.circuit.stems() + before + position)
+        let circuit = self.draft.circuit();
+        let before = count_pins(&circuit.gates[..gate]);
+        Some(circuit.stems() + before + position)
     }
 }

@@ -17,7 +17,7 @@ impl Design {
         requires { pin.stem < stem_count self.now.circuit }
         ensures { result ≡ obeys (bound self.now.rows output assignment) (through pin (carried self.now.circuit assignment)) }
     {
-        let bound = bound_value(self.draft.rows.as_slice(), output, assignment);
+        let bound = bound_value(self.draft.row_list(), output, assignment);
         bound.is_none_or(|value| value == pin.get(self.stem_bits(assignment).as_slice()))
     }
 
@@ -26,6 +26,8 @@ impl Design {
         ensures rows { (x : Output) → slice_get self.now.circuit.outputs output ≡ Some x → (result ≡ Some true) ↔ Obeyed self.now.circuit self.now.rows output x }
         ensures value { result ≡ option_map (meets self.now.circuit self.now.rows output) (slice_get self.now.circuit.outputs output) }
     {
+        // A use of the draft, by which the proof knows its rules.
+        let _ = &self.draft;
         let pin = self.output_pin(output)?;
         Some((0..self.assignments()).all(|assignment| self.obeys_at(pin, output, assignment)))
     }
@@ -42,7 +44,7 @@ impl Design {
         ensures repaired { (result ≡ 0) ↔ Repaired self.now.circuit self.now.rows }
         ensures value { result ≡ misses self.now.circuit self.now.rows }
     {
-        (0..self.draft.circuit.outputs.len())
+        (0..self.draft.outputs())
             .filter(|output| self.is_missed(*output))
             .count()
     }

@@ -16,14 +16,16 @@ impl Design {
     {
         let mut draft = Draft::new(heap)?;
         let name = Name::new(b"a").unwrap();
-        draft.circuit.inputs.push_reserved(name);
-        draft.circuit.outputs.push_reserved(Output {
-            name,
-            pin: Pin {
-                stem: 0,
-                mark: false,
-            },
-        });
+        draft.add_input(name).unwrap();
+        draft
+            .add_output(Output {
+                name,
+                pin: Pin {
+                    stem: 0,
+                    mark: false,
+                },
+            })
+            .unwrap();
         Ok(Design { draft })
     }
 }

@@ -1,6 +1,6 @@
 //! What a draft is made from, and what it takes.
 ghost use Rattle.std.specs.Prelude.{◌≡◌, true, [], ◌∷◌, ◌++◌, length, IfOk};
-ghost use Rattle.circuits.specs.Circuits.{name_bytes};
+ghost use Rattle.circuits.specs.Circuits.{net, name_bytes};
 ghost use Rattle.circuits.specs.Drafts.{no_parts, with_input, with_gate, with_output, with_row, input_fault, gate_fault, output_fault, row_fault, whole_fault, Unless};
 ghost use Rattle.circuits.specs.Legality.{position, stem_names, output_names};
 
@@ -67,6 +67,20 @@ impl Draft {
         ensures { result ≡ length self.now.rows }
     {
         self.rows.len()
+    }
+
+    // The circuit so far.
+    pub(crate) fn circuit(&self) -> &Circuit
+        ensures { net result.now ≡ self.now.circuit }
+    {
+        &self.circuit
+    }
+
+    // The rows so far.
+    pub(crate) fn row_list(&self) -> &[SpecRow]
+        ensures { result.now ≡ self.now.rows }
+    {
+        self.rows.as_slice()
     }
 
     /// The number of the stem of this name, if there is one.

@@ -4,7 +4,11 @@ use Rattle.circuits.proofs.Rules.{design_rules}
 use Rattle.circuits.proofs.design.Design.assignments.Goals as goal
 
 pub overflow_shl-result : goal.overflow_shl-result
-overflow_shl-result c = let h = c.self in ?
+overflow_shl-result c =
+    let r = design_rules _ _ c.self.invariant in
+    omega (arith, r.few_inputs, c.inputs.ensures)
 
 pub returns : goal.returns
-returns c = let h = c.draft in ?
+returns c =
+    let r = design_rules _ _ c.self.invariant in
+    rw (← c.self.view_is) (one_shl c.inputs.result 64 (omega (arith, r.few_inputs, c.inputs.ensures)) ∙ ap (λ k. 2 ^ k) c.inputs.ensures)
