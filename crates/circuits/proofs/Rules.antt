@@ -1,10 +1,8 @@
 -- The rules that a design or a draft keeps, one by one.
 use Rattle.std.proofs.Common.{◌≡◌, ℕ, ◌≤◌, true, ◌&&◌, leb, List, length}
 use Rattle.std.proofs.lemmas.Bool.{and_parts, and_from, leb-true, le-leb}
-use Rattle.circuits.specs.declared.design.Design.{Design}
 use Rattle.circuits.specs.declared.row.SpecRow.{SpecRow}
 use Rattle.circuits.specs.Circuits.{Net}
-use Rattle.circuits.specs.Drafts.{design_parts}
 use Rattle.circuits.specs.Lines.{stem_count}
 use Rattle.circuits.specs.Legality.{gates_legal, outputs_legal, all_apart, stem_names, output_names, rows_legal, consistent, within_limits, circuit_legal, drafted, legal, roomy}
 
@@ -80,9 +78,6 @@ legal_from c rows k =
 -- the rules of a whole design
 unfoldable pub design_rules : (c : Net) (rows : List SpecRow) → legal c rows ≡ true → Rules c rows
 design_rules c rows h = rules c rows (whole c rows h).draft
-
-pub design_keeps : (d : Design) → Rules (design_parts d).circuit (design_parts d).rows
-design_keeps d = design_rules (design_parts d).circuit (design_parts d).rows d.lawful
 
 -- room for all that there may be
 pub record Room (i g o r : ℕ) : Type 0 where

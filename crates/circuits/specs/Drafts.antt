@@ -1,7 +1,7 @@
 -- A design that is being read: what speaks against a further part, and what it becomes with it.
-use Rattle.std.specs.Prelude.{◌≡◌, Bool, false, cond, not, ◌||◌, List, [], ◌∷◌, ◌++◌, map, length, Some, None, vec_items, Option, Result, MatchResult, ◌==◌, nat_le}
-use Rattle.circuits.specs.declared.design.Design.{Design}
-use Rattle.circuits.specs.declared.draft.Draft.{Draft}
+use Rattle.std.specs.Prelude.{◌≡◌, Bool, true, false, cond, not, ◌||◌, List, [], ◌∷◌, ◌++◌, map, length, Some, None, vec_items, vec_capacity, Vec, Option, Result, MatchResult, ◌==◌, nat_le}
+use Rattle.std.specs.declared.alloc.Global.{Global}
+use Rattle.circuits.specs.declared.circuit.Circuit.{Circuit}
 use Rattle.circuits.specs.declared.gate.Gate.{Gate}
 use Rattle.circuits.specs.declared.gate.Output.{Output}
 use Rattle.circuits.specs.declared.name.Name.{Name}
@@ -12,18 +12,20 @@ use Rattle.circuits.specs.Kinds.{fits}
 use Rattle.circuits.specs.Circuits.{Net, net, name_bytes, pins_of}
 use Rattle.circuits.specs.Lines.{stem_count}
 use Rattle.circuits.specs.Specification.{literals_of}
-use Rattle.circuits.specs.Legality.{among, stem_names, output_names, pins_read, agrees}
+use Rattle.circuits.specs.Legality.{among, stem_names, output_names, pins_read, agrees, drafted, roomy}
 
 -- what a design or a draft consists of
 pub record Parts : Type 0 where
   pub circuit : Net
   pub rows : List SpecRow
 
-abbrev pub draft_parts : Draft → Parts
-draft_parts d = record { circuit = net d.circuit; rows = vec_items d.rows }
+abbrev pub parts : Circuit → Vec SpecRow Global → Parts
+parts c rows = record { circuit = net c; rows = vec_items rows }
 
-abbrev pub design_parts : Design → Parts
-design_parts d = draft_parts d.draft
+-- what a draft keeps: each rule so far, and room for all that there may be
+pub record DraftKeeps (c : Circuit) (rows : Vec SpecRow Global) : Type 0 where
+  pub lawful : drafted (net c) (vec_items rows) ≡ true
+  pub room : roomy (vec_capacity c.inputs) (vec_capacity c.gates) (vec_capacity c.outputs) (vec_capacity rows) ≡ true
 
 abbrev pub no_parts : Parts
 no_parts = record { circuit = record { inputs = []; gates = []; outputs = [] }; rows = [] }

@@ -1,6 +1,5 @@
 //! The rows of the report.
 ghost use Rattle.std.specs.Prelude.{◌≡◌, IfOk, string_bytes};
-ghost use Rattle.circuits.specs.Drafts.{design_parts};
 ghost use Rattle.rectify.specs.Rows.{job_row_bytes, stop_row_bytes};
 
 use circuits::{Counts, Design};
@@ -9,7 +8,7 @@ use texts::{ReadFault, TextFault};
 
 /// The row of a design: how many inputs, gates and outputs it has, and how many outputs do not meet their rows.
 pub fn job_row(heap: Global, design: &Design) -> Result<String, AllocError>
-    ensures { IfOk result (λ s. string_bytes s ≡ job_row_bytes (design_parts design.now)) }
+    ensures { IfOk result (λ s. string_bytes s ≡ job_row_bytes design.now) }
 {
     let Counts {
         inputs,

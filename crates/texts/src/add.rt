@@ -1,7 +1,7 @@
 //! The parts that records name, looked up in a draft and added to it.
 ghost use Rattle.std.specs.Prelude.{◌≡◌, [], ◌∷◌, ◌++◌, length, MatchResult};
 ghost use Rattle.circuits.specs.Circuits.{name_bytes, pin_list};
-ghost use Rattle.circuits.specs.Drafts.{draft_parts, with_input};
+ghost use Rattle.circuits.specs.Drafts.{with_input};
 ghost use Rattle.texts.specs.Adding.{Settled, Reached, pin_named, pins_named, PinsRead, input_cause, gate_cause, GateAdded, output_cause, OutputAdded, RowAdded, RowRefused};
 ghost use Rattle.texts.specs.Records.{fields};
 
@@ -12,7 +12,7 @@ use circuits::{Draft, Gate, Kind, Name, Output, Pin, Pins, SpecRow};
 
 // The pin that the field writes, if its stem is known.
 fn read_pin(draft: &Draft, field: &[u8]) -> Option<Pin>
-    ensures { result ≡ pin_named (draft_parts draft.now) field.now }
+    ensures { result ≡ pin_named draft.now field.now }
 {
     let (mark, name) = marked(field);
     let name = Name::new(name)?;
@@ -30,7 +30,7 @@ fn with_pin(mut pins: Pins, pin: Pin) -> Result<Pins, Cause>
 
 // The pins that these fields write. It is refused where a stem is not known, and then where there are more than four.
 fn read_pins(draft: &Draft, pins: &[u8]) -> Result<Pins, Cause>
-    ensures { PinsRead (pins_named (draft_parts draft.now) (fields pins.now)) result }
+    ensures { PinsRead (pins_named draft.now (fields pins.now)) result }
 {
     let mut read = Ok(Pins::none());
     for field in pins.split(|b| *b == b',') {
@@ -44,8 +44,8 @@ fn read_pins(draft: &Draft, pins: &[u8]) -> Result<Pins, Cause>
 // What is reached is asked here and of gates and outputs: a struct that lends the draft with its group would have to say
 // in each method that it still lends the same draft.
 pub(crate) fn add_input(draft: &mut Draft, name: Name) -> Result<(), Cause>
-    requires { Reached Group.Inputs (draft_parts draft.old) }
-    ensures { Settled (input_cause (draft_parts draft.old) (name_bytes name)) (draft_parts draft.new ≡ with_input (draft_parts draft.old) name) (draft_parts draft.new ≡ draft_parts draft.old) result }
+    requires { Reached Group.Inputs draft.old }
+    ensures { Settled (input_cause draft.old (name_bytes name)) (draft.new ≡ with_input draft.old name) (draft.new ≡ draft.old) result }
 {
     draft.add_input(name)?;
     Ok(())
@@ -53,8 +53,8 @@ pub(crate) fn add_input(draft: &mut Draft, name: Name) -> Result<(), Cause>
 
 // Adds a gate whose pins are read from these fields.
 pub(crate) fn add_gate(draft: &mut Draft, name: Name, kind: Kind, pins: &[u8]) -> Result<(), Cause>
-    requires { Reached Group.Gates (draft_parts draft.old) }
-    ensures { Settled (gate_cause (draft_parts draft.old) (name_bytes name) kind (fields pins.now)) (GateAdded (draft_parts draft.old) name kind (fields pins.now) (draft_parts draft.new)) (draft_parts draft.new ≡ draft_parts draft.old) result }
+    requires { Reached Group.Gates draft.old }
+    ensures { Settled (gate_cause draft.old (name_bytes name) kind (fields pins.now)) (GateAdded draft.old name kind (fields pins.now) draft.new) (draft.new ≡ draft.old) result }
 {
     if draft.gates() >= 64 {
         return Err(Cause::Limit);
@@ -74,8 +74,8 @@ pub(crate) fn add_output(
     mark: bool,
     stem: &Name,
 ) -> Result<(), Cause>
-    requires { Reached Group.Outputs (draft_parts draft.old) }
-    ensures { Settled (output_cause (draft_parts draft.old) (name_bytes name) (name_bytes stem.now)) (OutputAdded (draft_parts draft.old) name mark (name_bytes stem.now) (draft_parts draft.new)) (draft_parts draft.new ≡ draft_parts draft.old) result }
+    requires { Reached Group.Outputs draft.old }
+    ensures { Settled (output_cause draft.old (name_bytes name) (name_bytes stem.now)) (OutputAdded draft.old name mark (name_bytes stem.now) draft.new) (draft.new ≡ draft.old) result }
 {
     if draft.outputs() >= 16 {
         return Err(Cause::Limit);
@@ -95,7 +95,7 @@ pub(crate) fn add_row(
     pattern: &[u8],
     value: &[u8],
 ) -> Result<(), Cause>
-    ensures { MatchResult result (λ _. RowAdded (draft_parts draft.old) (name_bytes output.now) pattern.now value.now (draft_parts draft.new)) (λ c. RowRefused (draft_parts draft.old) (name_bytes output.now) pattern.now value.now c × (draft_parts draft.new ≡ draft_parts draft.old)) }
+    ensures { MatchResult result (λ _. RowAdded draft.old (name_bytes output.now) pattern.now value.now draft.new) (λ c. RowRefused draft.old (name_bytes output.now) pattern.now value.now c × (draft.new ≡ draft.old)) }
 {
     if draft.rows() >= 256 {
         return Err(Cause::Limit);

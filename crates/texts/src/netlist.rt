@@ -1,6 +1,6 @@
 //! The netlist, record by record.
 ghost use Rattle.std.specs.Prelude.{◌≡◌, IfOk, if◌then◌else◌, Some, None, MatchResult};
-ghost use Rattle.circuits.specs.Drafts.{draft_parts, no_parts, whole_fault};
+ghost use Rattle.circuits.specs.Drafts.{no_parts, whole_fault};
 ghost use Rattle.circuits.specs.declared.fault.PartFault.TheVariants.{Limit};
 ghost use Rattle.texts.specs.Adding.{Reached};
 ghost use Rattle.texts.specs.Netlist.{Taken, NetlistRead, NetlistRefused};
@@ -26,9 +26,9 @@ fn kind_of_record(shaped: &Shaped) -> RecordKind
 
 // Takes one record, without its line feed, and tells the group that is reached with it.
 fn take_record(draft: &mut Draft, group: Group, record: &[u8]) -> Result<Group, Cause>
-    requires { Reached group (draft_parts draft.old) }
-    ensures exact { Taken (draft_parts draft.old) group «record».now result (draft_parts draft.new) }
-    ensures onward { IfOk result (λ g. Reached g (draft_parts draft.new)) }
+    requires { Reached group draft.old }
+    ensures exact { Taken draft.old group «record».now result draft.new }
+    ensures onward { IfOk result (λ g. Reached g draft.new) }
 {
     let shaped = netlist_shape(record).ok_or(Cause::Shape)?;
     let next = next_group(group, kind_of_record(&shaped))?;
@@ -42,15 +42,15 @@ fn take_record(draft: &mut Draft, group: Group, record: &[u8]) -> Result<Group, 
 
 // Whether there is an input and an output.
 fn is_whole(draft: &Draft) -> bool
-    ensures { whole_fault (draft_parts draft.now) ≡ (if result then None else Some Limit) }
+    ensures { whole_fault draft.now ≡ (if result then None else Some Limit) }
 {
     draft.inputs() != 0 && draft.outputs() != 0
 }
 
 // Reads the netlist into an empty draft.
 pub(crate) fn read_netlist(draft: &mut Draft, netlist: &[u8]) -> Result<(), TextFault>
-    requires { draft_parts draft.old ≡ no_parts }
-    ensures { MatchResult result (λ _. NetlistRead netlist.now (draft_parts draft.new)) (λ f. NetlistRefused netlist.now f) }
+    requires { draft.old ≡ no_parts }
+    ensures { MatchResult result (λ _. NetlistRead netlist.now draft.new) (λ f. NetlistRefused netlist.now f) }
 {
     let mut group = Group::Inputs;
     let mut records = Records::new(netlist);

@@ -1,6 +1,6 @@
 //! Reading a design from its two texts.
 ghost use Rattle.std.specs.Prelude.{◌≡◌, ◌<◌, ◌≤◌, length, IfOk, IfErr, MatchResult, OnOk};
-ghost use Rattle.circuits.specs.Drafts.{design_parts, draft_parts, no_parts};
+ghost use Rattle.circuits.specs.Drafts.{no_parts};
 ghost use Rattle.texts.specs.Reading.{most, too_long, Accepted, Refused, Told};
 ghost use Rattle.texts.specs.Writing.{Writes};
 
@@ -35,7 +35,7 @@ fn check_length(bytes: &[u8], text: Text) -> Result<(), TextFault>
 impl Reader {
     /// A reader with room for all that a design may have.
     pub fn new(heap: Global) -> Result<Reader, AllocError>
-        ensures { IfOk result (λ x. draft_parts x.draft ≡ no_parts) }
+        ensures { IfOk result (λ x. x.draft ≡ no_parts) }
     {
         let draft = Draft::new(heap)?;
         Ok(Reader { draft })
@@ -49,8 +49,8 @@ impl Reader {
         specification: &[u8],
         design: &mut Design,
     ) -> Result<(), ReadFault>
-        ensures exact { MatchResult result (λ _. Accepted netlist.now specification.now (design_parts design.new)) (λ f. Refused netlist.now specification.now f × (design_parts design.new ≡ design_parts design.old)) }
-        ensures writing { OnOk result (Writes netlist.now specification.now (design_parts design.new)) }
+        ensures exact { MatchResult result (λ _. Accepted netlist.now specification.now design.new) (λ f. Refused netlist.now specification.now f × (design.new ≡ design.old)) }
+        ensures writing { OnOk result (Writes netlist.now specification.now design.new) }
         ensures told { IfErr result (λ f. Told netlist.now specification.now f) }
     {
         check_length(netlist, Text::Netlist)?;

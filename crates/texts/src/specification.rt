@@ -1,6 +1,5 @@
 //! The specification, record by record.
 ghost use Rattle.std.specs.Prelude.{Ok, Err, MatchResult};
-ghost use Rattle.circuits.specs.Drafts.{draft_parts};
 ghost use Rattle.texts.specs.Specification.{RowStep, SpecificationRead, SpecificationRefused};
 
 use crate::add::add_row;
@@ -11,7 +10,7 @@ use circuits::{Draft, Name};
 
 // Takes one record, without its line feed.
 fn take_row(draft: &mut Draft, record: &[u8]) -> Result<(), Cause>
-    ensures { MatchResult result (λ _. RowStep (draft_parts draft.old) «record».now (Ok (draft_parts draft.new))) (λ c. RowStep (draft_parts draft.old) «record».now (Err c)) }
+    ensures { MatchResult result (λ _. RowStep draft.old «record».now (Ok draft.new)) (λ c. RowStep draft.old «record».now (Err c)) }
 {
     let row = row_shape(record).ok_or(Cause::Shape)?;
     let output = Name::new(row.output).ok_or(Cause::Shape)?;
@@ -20,7 +19,7 @@ fn take_row(draft: &mut Draft, record: &[u8]) -> Result<(), Cause>
 
 // Reads the specification into a draft that has the circuit.
 pub(crate) fn read_specification(draft: &mut Draft, specification: &[u8]) -> Result<(), TextFault>
-    ensures { MatchResult result (λ _. SpecificationRead specification.now (draft_parts draft.old) (draft_parts draft.new)) (λ f. SpecificationRefused specification.now (draft_parts draft.old) f) }
+    ensures { MatchResult result (λ _. SpecificationRead specification.now draft.old draft.new) (λ f. SpecificationRefused specification.now draft.old f) }
 {
     let mut records = Records::new(specification);
     // No `for`: what is left is asked of the same iterator afterwards.

@@ -1,7 +1,6 @@
 //! The lines of a design's circuit, by their numbers.
 ghost use Rattle.std.specs.Prelude.{◌≡◌, ℕ, ◌^◌, ◌<◌, length, is_some, Some, nat_lt};
 ghost use Rattle.circuits.specs.declared.place.Place.{Place};
-ghost use Rattle.circuits.specs.Drafts.{design_parts};
 ghost use Rattle.circuits.specs.Lines.{pin_count, line_count, line_of, place_of};
 
 use crate::counts::Counts;
@@ -20,11 +19,11 @@ fn count_pins(gates: &[Gate]) -> usize
 impl Design {
     /// How many inputs, gates and outputs there are.
     pub fn counts(&self) -> Counts
-        ensures { result ≡ record { inputs = length (design_parts self.now).circuit.inputs; gates = length (design_parts self.now).circuit.gates; outputs = length (design_parts self.now).circuit.outputs } }
+        ensures { result ≡ record { inputs = length self.now.circuit.inputs; gates = length self.now.circuit.gates; outputs = length self.now.circuit.outputs } }
     {
-        let inputs = self.draft.circuit.inputs.len();
-        let gates = self.draft.circuit.gates.len();
-        let outputs = self.draft.circuit.outputs.len();
+        let inputs = self.draft.inputs();
+        let gates = self.draft.gates();
+        let outputs = self.draft.outputs();
         Counts {
             inputs,
             gates,
@@ -34,16 +33,17 @@ impl Design {
 
     /// The place of a line, or none past the last line.
     pub fn place(&self, line: usize) -> Option<Place>
-        ensures value { result ≡ place_of (design_parts self.now).circuit line }
-        ensures exists { is_some result ≡ nat_lt line (line_count (design_parts self.now).circuit) }
-        ensures back { (p : Place) → result ≡ Some p → line_of (design_parts self.now).circuit p ≡ Some line }
+        ensures value { result ≡ place_of self.now.circuit line }
+        ensures exists { is_some result ≡ nat_lt line (line_count self.now.circuit) }
+        ensures back { (p : Place) → result ≡ Some p → line_of self.now.circuit p ≡ Some line }
     {
-        let stems = self.draft.circuit.stems();
+        let circuit = self.draft.circuit();
+        let stems = circuit.stems();
         if line < stems {
             return Some(Place::Stem(line));
         }
         let mut left = line - stems;
-        for (number, gate) in self.draft.circuit.gates.iter().enumerate() {
+        for (number, gate) in circuit.gates.iter().enumerate() {
             let pins = gate.pins.as_slice().len();
             if left < pins {
                 return Some(Place::Pin {
@@ -58,21 +58,22 @@ impl Design {
 
     /// The number of the line at a place, or none where there is no such stem or pin.
     pub fn line(&self, place: Place) -> Option<usize>
-        ensures value { result ≡ line_of (design_parts self.now).circuit place }
-        ensures back { (l : ℕ) → result ≡ Some l → place_of (design_parts self.now).circuit l ≡ Some place }
+        ensures value { result ≡ line_of self.now.circuit place }
+        ensures back { (l : ℕ) → result ≡ Some l → place_of self.now.circuit l ≡ Some place }
     {
         match place {
-            Place::Stem(stem) => (stem < self.draft.circuit.stems()).then_some(stem),
+            Place::Stem(stem) => (stem < self.draft.circuit().stems()).then_some(stem),
             Place::Pin { gate, position } => self.pin_line(gate, position),
         }
     }
 
     // The number of the line at a position of a gate.
     fn pin_line(&self, gate: usize, position: usize) -> Option<usize>
-        ensures { result ≡ line_of (design_parts self.now).circuit (Place.Pin gate position) }
+        ensures { result ≡ line_of self.now.circuit (Place.Pin gate position) }
     {
         self.pin(gate, position)?;
-        let before = count_pins(&self.draft.circuit.gates[..gate]);
-        Some(self.draft.circuit.stems() + before + position)
+        let circuit = self.draft.circuit();
+        let before = count_pins(&circuit.gates[..gate]);
+        Some(circuit.stems() + before + position)
     }
 }

@@ -1,6 +1,6 @@
 //! The smallest design.
 ghost use Rattle.std.specs.Prelude.{IfOk};
-ghost use Rattle.circuits.specs.Drafts.{design_parts, Smallest};
+ghost use Rattle.circuits.specs.Drafts.{Smallest};
 
 use crate::design::Design;
 use crate::draft::Draft;
@@ -12,18 +12,20 @@ use std::alloc::{AllocError, Global};
 impl Design {
     /// The smallest design: an input `a`, and an output `a` that reads it. It has room for all that a design may have.
     pub fn new(heap: Global) -> Result<Design, AllocError>
-        ensures { IfOk result (λ d. Smallest (design_parts d)) }
+        ensures { IfOk result (λ d. Smallest d) }
     {
         let mut draft = Draft::new(heap)?;
         let name = Name::new(b"a").unwrap();
-        draft.circuit.inputs.push_reserved(name);
-        draft.circuit.outputs.push_reserved(Output {
-            name,
-            pin: Pin {
-                stem: 0,
-                mark: false,
-            },
-        });
+        draft.add_input(name).unwrap();
+        draft
+            .add_output(Output {
+                name,
+                pin: Pin {
+                    stem: 0,
+                    mark: false,
+                },
+            })
+            .unwrap();
         Ok(Design { draft })
     }
 }

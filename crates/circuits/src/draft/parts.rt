@@ -1,7 +1,7 @@
 //! What a draft is made from, and what it takes.
 ghost use Rattle.std.specs.Prelude.{◌≡◌, true, [], ◌∷◌, ◌++◌, length, IfOk};
-ghost use Rattle.circuits.specs.Circuits.{name_bytes};
-ghost use Rattle.circuits.specs.Drafts.{design_parts, draft_parts, no_parts, with_input, with_gate, with_output, with_row, input_fault, gate_fault, output_fault, row_fault, whole_fault, Unless};
+ghost use Rattle.circuits.specs.Circuits.{net, name_bytes};
+ghost use Rattle.circuits.specs.Drafts.{no_parts, with_input, with_gate, with_output, with_row, input_fault, gate_fault, output_fault, row_fault, whole_fault, Unless};
 ghost use Rattle.circuits.specs.Legality.{position, stem_names, output_names};
 
 use crate::circuit::Circuit;
@@ -17,7 +17,7 @@ use std::mem;
 impl Draft {
     /// A draft with nothing in it, and room for all that a design may have.
     pub fn new(heap: Global) -> Result<Draft, AllocError>
-        ensures { IfOk result (λ d. draft_parts d ≡ no_parts) }
+        ensures { IfOk result (λ d. d ≡ no_parts) }
     {
         let inputs = Vec::with_capacity(heap, 12)?;
         let gates = Vec::with_capacity(heap, 64)?;
@@ -33,7 +33,7 @@ impl Draft {
 
     /// Takes everything out.
     pub fn clear(&mut self)
-        ensures { draft_parts self.new ≡ no_parts }
+        ensures { self.new ≡ no_parts }
     {
         self.circuit.inputs.clear();
         self.circuit.gates.clear();
@@ -43,49 +43,63 @@ impl Draft {
 
     /// How many inputs there are.
     pub fn inputs(&self) -> usize
-        ensures { result ≡ length (draft_parts self.now).circuit.inputs }
+        ensures { result ≡ length self.now.circuit.inputs }
     {
         self.circuit.inputs.len()
     }
 
     /// How many gates there are.
     pub fn gates(&self) -> usize
-        ensures { result ≡ length (draft_parts self.now).circuit.gates }
+        ensures { result ≡ length self.now.circuit.gates }
     {
         self.circuit.gates.len()
     }
 
     /// How many outputs there are.
     pub fn outputs(&self) -> usize
-        ensures { result ≡ length (draft_parts self.now).circuit.outputs }
+        ensures { result ≡ length self.now.circuit.outputs }
     {
         self.circuit.outputs.len()
     }
 
     /// How many rows there are.
     pub fn rows(&self) -> usize
-        ensures { result ≡ length (draft_parts self.now).rows }
+        ensures { result ≡ length self.now.rows }
     {
         self.rows.len()
     }
 
+    // The circuit so far.
+    pub(crate) fn circuit(&self) -> &Circuit
+        ensures { net result.now ≡ self.now.circuit }
+    {
+        &self.circuit
+    }
+
+    // The rows so far.
+    pub(crate) fn row_list(&self) -> &[SpecRow]
+        ensures { result.now ≡ self.now.rows }
+    {
+        self.rows.as_slice()
+    }
+
     /// The number of the stem of this name, if there is one.
     pub fn stem(&self, name: &Name) -> Option<usize>
-        ensures { result ≡ position 0 (name_bytes name.now) (stem_names (draft_parts self.now).circuit) }
+        ensures { result ≡ position 0 (name_bytes name.now) (stem_names self.now.circuit) }
     {
         self.circuit.find_stem(name)
     }
 
     /// The number of the output of this name, if there is one.
     pub fn output(&self, name: &Name) -> Option<usize>
-        ensures { result ≡ position 0 (name_bytes name.now) (output_names (draft_parts self.now).circuit) }
+        ensures { result ≡ position 0 (name_bytes name.now) (output_names self.now.circuit) }
     {
         self.circuit.find_output(name)
     }
 
     /// Adds an input. It is refused after any other part, past the twelfth, and where its name is taken.
     pub fn add_input(&mut self, name: Name) -> Result<(), PartFault>
-        ensures { Unless (input_fault (draft_parts self.old) name) (draft_parts self.new ≡ with_input (draft_parts self.old) name) (draft_parts self.new ≡ draft_parts self.old) result }
+        ensures { Unless (input_fault self.old name) (self.new ≡ with_input self.old name) (self.new ≡ self.old) result }
     {
         if !self.circuit.gates.is_empty()
             || !self.circuit.outputs.is_empty()
@@ -106,7 +120,7 @@ impl Draft {
     /// Adds a gate. It is refused after an output or a row, past the 64th, where its name is taken or a pin reads
     /// a stem that does not stand, and where the number of its pins does not fit its kind.
     pub fn add_gate(&mut self, gate: Gate) -> Result<(), PartFault>
-        ensures { Unless (gate_fault (draft_parts self.old) gate) (draft_parts self.new ≡ with_gate (draft_parts self.old) gate) (draft_parts self.new ≡ draft_parts self.old) result }
+        ensures { Unless (gate_fault self.old gate) (self.new ≡ with_gate self.old gate) (self.new ≡ self.old) result }
     {
         if !self.circuit.outputs.is_empty() || !self.rows.is_empty() {
             return Err(PartFault::Order);
@@ -127,7 +141,7 @@ impl Draft {
     /// Adds an output. It is refused after a row, past the sixteenth, and where its name is taken or it reads a
     /// stem that does not stand.
     pub fn add_output(&mut self, output: Output) -> Result<(), PartFault>
-        ensures { Unless (output_fault (draft_parts self.old) output) (draft_parts self.new ≡ with_output (draft_parts self.old) output) (draft_parts self.new ≡ draft_parts self.old) result }
+        ensures { Unless (output_fault self.old output) (self.new ≡ with_output self.old output) (self.new ≡ self.old) result }
     {
         if !self.rows.is_empty() {
             return Err(PartFault::Order);
@@ -147,7 +161,7 @@ impl Draft {
     /// Adds a row. It is refused past the 256th, where there is no such output, where its pattern has not one
     /// literal for each input, and where it contradicts an earlier row.
     pub fn add_row(&mut self, row: SpecRow) -> Result<(), PartFault>
-        ensures { Unless (row_fault (draft_parts self.old) row) (draft_parts self.new ≡ with_row (draft_parts self.old) row) (draft_parts self.new ≡ draft_parts self.old) result }
+        ensures { Unless (row_fault self.old row) (self.new ≡ with_row self.old row) (self.new ≡ self.old) result }
     {
         if self.rows.len() >= 256 {
             return Err(PartFault::Limit);
@@ -167,7 +181,7 @@ impl Draft {
 
     /// Hands the design over and takes what was there in exchange. It is refused where there is no input or no output.
     pub fn complete(&mut self, design: &mut Design) -> Result<(), PartFault>
-        ensures { Unless (whole_fault (draft_parts self.old)) ((design_parts design.new ≡ draft_parts self.old) × (draft_parts self.new ≡ design_parts design.old)) ((design_parts design.new ≡ design_parts design.old) × (draft_parts self.new ≡ draft_parts self.old)) result }
+        ensures { Unless (whole_fault self.old) ((design.new ≡ self.old) × (self.new ≡ design.old)) ((design.new ≡ design.old) × (self.new ≡ self.old)) result }
     {
         if self.circuit.inputs.is_empty() || self.circuit.outputs.is_empty() {
             return Err(PartFault::Limit);

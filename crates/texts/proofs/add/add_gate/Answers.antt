@@ -4,7 +4,7 @@ use Rattle.std.proofs.lemmas.Bool.{lt-leb}
 use Rattle.std.specs.Option.{option_map}
 use Rattle.circuits.specs.declared.gate.Gate.{Gate}
 use Rattle.circuits.specs.Circuits.{name_bytes}
-use Rattle.circuits.specs.Drafts.{draft_parts, gate_fault}
+use Rattle.circuits.specs.Drafts.{gate_fault}
 use Rattle.texts.specs.Adding.{gate_cause}
 use Rattle.texts.specs.Records.{fields}
 use Rattle.texts.specs.Faults.{cause_of}
@@ -16,9 +16,9 @@ abbrev made : In_ok-pins → Gate
 made c = record { name = c.args.name; kind = c.args.kind; pins = c.in_ok-pins.pins }
 
 -- What is left to check is checked by the draft.
-same : (c : In_ok-pins) → gate_cause (draft_parts c.args.draft.now) (name_bytes c.args.name) c.args.kind (fields c.args.pins.now) ≡ option_map cause_of (gate_fault (draft_parts c.args.draft.now) (made c))
+same : (c : In_ok-pins) → gate_cause c.args.draft.now (name_bytes c.args.name) c.args.kind (fields c.args.pins.now) ≡ option_map cause_of (gate_fault c.args.draft.now (made c))
 same c =
-    gate_same (draft_parts c.args.draft.now) (made c) (fields c.args.pins.now) c.requires (lt-leb 64 (length (draft_parts c.args.draft.now).circuit.gates) (omega arith))
+    gate_same c.args.draft.now (made c) (fields c.args.pins.now) c.requires (lt-leb 64 (length c.args.draft.now.circuit.gates) (omega arith))
     (ap is_some (sym c.stem.ensures) ∙ sym c.if-is_some.ensures) c.in_ok-pins.ensures
 
 pub returns-in_err-add_gate : goal.returns-in_err-add_gate

@@ -4,7 +4,7 @@ use Rattle.std.proofs.lemmas.Bool.{lt-leb}
 use Rattle.std.specs.Option.{option_map}
 use Rattle.circuits.specs.declared.gate.Output.{Output}
 use Rattle.circuits.specs.Circuits.{name_bytes}
-use Rattle.circuits.specs.Drafts.{draft_parts, output_fault}
+use Rattle.circuits.specs.Drafts.{output_fault}
 use Rattle.texts.specs.Adding.{output_cause}
 use Rattle.texts.specs.Faults.{cause_of}
 use Rattle.texts.proofs.Additions.{output_same}
@@ -15,9 +15,9 @@ abbrev made : In_ok-stem → Output
 made c = record { name = c.args.name; pin = record { stem = c.in_ok-stem.stem; mark = c.args.mark } }
 
 -- What is left to check is checked by the draft.
-same : (c : In_ok-stem) → output_cause (draft_parts c.args.draft.now) (name_bytes c.args.name) (name_bytes c.args.stem.now) ≡ option_map cause_of (output_fault (draft_parts c.args.draft.now) (made c))
+same : (c : In_ok-stem) → output_cause c.args.draft.now (name_bytes c.args.name) (name_bytes c.args.stem.now) ≡ option_map cause_of (output_fault c.args.draft.now (made c))
 same c =
-    output_same (draft_parts c.args.draft.now) (made c) (name_bytes c.args.stem.now) c.requires (lt-leb 16 (length (draft_parts c.args.draft.now).circuit.outputs) (omega arith)) (sym c.stem.ensures ∙ c.in_ok-stem.ensures.ok_part)
+    output_same c.args.draft.now (made c) (name_bytes c.args.stem.now) c.requires (lt-leb 16 (length c.args.draft.now.circuit.outputs) (omega arith)) (sym c.stem.ensures ∙ c.in_ok-stem.ensures.ok_part)
 
 pub returns-in_err-add_output : goal.returns-in_err-add_output
 returns-in_err-add_output c =

@@ -3,7 +3,6 @@ use Rattle.std.proofs.lemmas.Option.{MatchOption-at_some, MatchOption-at_none}
 use Rattle.std.proofs.lemmas.Result.{err_from_is_err_and}
 use Rattle.circuits.specs.declared.row.SpecRow.{SpecRow}
 use Rattle.circuits.specs.Circuits.{name_bytes}
-use Rattle.circuits.specs.Drafts.{draft_parts}
 use Rattle.texts.specs.Adding.{limit, unknown, unwritten}
 use Rattle.texts.specs.declared.fault.Cause.TheVariants.{Naming, Literals}
 use Rattle.texts.proofs.Exits.{lacking}
@@ -26,7 +25,7 @@ returns-in_err-pattern c =
     let (none, cause) = lacking c.pattern_of.result _ Literals c.in_err-pattern.ensures.value in
     rw (p.1, p.2, cause) (
       unwritten (omega arith) c.in_ok-output.output (sym c.output.ensures ∙ c.in_ok-output.ensures.ok_part)
-          (no_pattern (draft_parts c.args.draft.now) (name_bytes c.args.output.now) c.args.pattern.now c.args.value.now (MatchOption-at_none _ _ none c.pattern_of.ensures)),
+          (no_pattern c.args.draft.now (name_bytes c.args.output.now) c.args.pattern.now c.args.value.now (MatchOption-at_none _ _ none c.pattern_of.ensures)),
       refl,
     )
 
@@ -36,7 +35,7 @@ returns-in_err-value c =
     let (none, cause) = lacking c.value_of.result _ Literals c.in_err-value.ensures.value in
     rw (p.1, p.2, cause) (
       unwritten (omega arith) c.in_ok-output.output (sym c.output.ensures ∙ c.in_ok-output.ensures.ok_part)
-          (no_value (draft_parts c.args.draft.now) (name_bytes c.args.output.now) c.args.pattern.now c.args.value.now (MatchOption-at_none _ _ none c.value_of.ensures)),
+          (no_value c.args.draft.now (name_bytes c.args.output.now) c.args.pattern.now c.args.value.now (MatchOption-at_none _ _ none c.value_of.ensures)),
       refl,
     )
 
@@ -48,7 +47,7 @@ returns-in_err-add_row c =
     let p = err_from_is_err_and c.from_residual-in_err-add_row.result c.from_residual-in_err-add_row.ensures.1 in
     let told = c.in_err-add_row.ensures in
     rw (p.1, p.2) (
-      row_refused (draft_parts c.args.draft.now) (name_bytes c.args.output.now) c.args.pattern.now c.args.value.now (written (goal.at.returns-in_err-add_row c).In_ok-value)
+      row_refused c.args.draft.now (name_bytes c.args.output.now) c.args.pattern.now c.args.value.now (written (goal.at.returns-in_err-add_row c).In_ok-value)
           (omega arith) (sym c.output.ensures ∙ c.in_ok-output.ensures.ok_part) (MatchOption-at_some _ _ _ c.in_ok-pattern.ensures.ok_part c.pattern_of.ensures) (MatchOption-at_some _ _ _ c.in_ok-value.ensures.ok_part c.value_of.ensures) _ told.0,
       told.1,
     )
@@ -56,5 +55,5 @@ returns-in_err-add_row c =
 pub returns : goal.returns
 returns c =
     let told = c.in_ok-add_row.ensures in
-    row_added (draft_parts c.args.draft.now) (name_bytes c.args.output.now) c.args.pattern.now c.args.value.now (written (goal.at.returns c).In_ok-value)
+    row_added c.args.draft.now (name_bytes c.args.output.now) c.args.pattern.now c.args.value.now (written (goal.at.returns c).In_ok-value)
     (omega arith) (sym c.output.ensures ∙ c.in_ok-output.ensures.ok_part) (MatchOption-at_some _ _ _ c.in_ok-pattern.ensures.ok_part c.pattern_of.ensures) (MatchOption-at_some _ _ _ c.in_ok-value.ensures.ok_part c.value_of.ensures) _ told.0 told.1

@@ -1,7 +1,6 @@
 use Rattle.std.proofs.Common.{map}
-use Rattle.circuits.specs.Drafts.{draft_parts}
 use Rattle.texts.proofs.Pinning.{Read}
 use Rattle.texts.proofs.add.read_pins.Given as goal
 
 abbrev pub invariant-loop-field : goal.invariant-loop-field
-invariant-loop-field l = Read (draft_parts l.draft) (map (λ x. x.now) l.yielded) l.read
+invariant-loop-field l = Read l.draft (map (λ x. x.now) l.yielded) l.read

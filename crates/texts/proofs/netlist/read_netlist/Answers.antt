@@ -1,6 +1,5 @@
 use Rattle.std.proofs.Common.{subst, ap, ◌∙◌, rules}
 use Rattle.std.proofs.lemmas.Result.{err_from_is_err_and, IfOk-at_ok}
-use Rattle.circuits.specs.Drafts.{draft_parts}
 use Rattle.texts.specs.declared.fault.Cause.TheVariants.{Limit}
 use Rattle.texts.specs.declared.fault.Text.TheVariants.{Netlist}
 use Rattle.texts.specs.declared.group.Group.TheVariants.{Inputs}
@@ -23,8 +22,8 @@ pub loop-spot-preserved : goal.loop-spot-preserved
 loop-spot-preserved c =
     let now = c.loop-spot.invariant in
     let given = c.in-Some.ensures.steps in
-    let d = draft_parts c.loop-spot.draft in
-    let d' = draft_parts c.take_record-taken.new.draft in
+    let d = c.loop-spot.draft in
+    let d' = c.take_record-taken.new.draft in
     let ok = mapped_ok _ c.take_record-taken.result c.map_err.result c.map_err.ensures.cases _ c.in_ok-group.was in
     let taken = subst (λ r. Taken d c.loop-spot.group c.in-Some.«record».now r d') ok c.take_record-taken.ensures.exact in
     record {
@@ -38,8 +37,8 @@ returns-in_err-group c =
     let p = err_from_is_err_and c.from_residual.result c.from_residual.ensures.1 in
     let now = c.loop-spot.invariant in
     let given = c.in-Some.ensures.steps in
-    let d = draft_parts c.loop-spot.draft in
-    let d' = draft_parts c.take_record-taken.new.draft in
+    let d = c.loop-spot.draft in
+    let d' = c.take_record-taken.new.draft in
     let (cause, err, told) = mapped_err _ c.take_record-taken.result c.map_err.result c.map_err.ensures.cases (spot_fault Netlist c.in-Some.spot) _ c.in_err-group.was (λ e k. search rules) in
     let taken = subst (λ r. Taken d c.loop-spot.group c.in-Some.«record».now r d') err c.take_record-taken.ensures.exact in
     rw (p.1, p.2)
@@ -59,4 +58,4 @@ returns-then-not-is_whole c =
     let gone = subst (λ o. NextRecord c.loop-spot.records o c.next.new.self) c.in_default.is c.next.ensures.steps in
     let all = going_all NetlistStep c.args.netlist.now start c.loop-spot.records now.same_text _ _ gone rest.number rest.place rest.length c.if-rest-ne0.false in
     let end = going_end NetlistStep c.args.netlist.now start c.loop-spot.records now.same_text _ _ gone rest.number rest.place rest.length Netlist Limit _ c.fault-then-not-is_whole.ensures in
-    subst (NetlistRefused c.args.netlist.now) end (at_end c.loop-spot.records.earlier c.loop-spot.group (draft_parts c.loop-spot.draft) now.taken all c.if-not-is_whole.ensures)
+    subst (NetlistRefused c.args.netlist.now) end (at_end c.loop-spot.records.earlier c.loop-spot.group c.loop-spot.draft now.taken all c.if-not-is_whole.ensures)

@@ -1,5 +1,4 @@
 use Rattle.std.proofs.Common.{◌≡◌, ◌-◌, length}
-use Rattle.circuits.specs.Drafts.{draft_parts}
 use Rattle.texts.specs.Adding.{Reached}
 use Rattle.texts.specs.Netlist.{NetlistStep, start}
 use Rattle.texts.specs.Walks.{After}
@@ -9,8 +8,8 @@ abbrev pub invariant-loop-spot : goal.invariant-loop-spot
 invariant-loop-spot l =
     record {
       same_text : l.records.text.now ≡ l.netlist;
-      taken : After NetlistStep l.netlist start l.records.earlier (l.group, draft_parts l.draft);
-      reached : Reached l.group (draft_parts l.draft);
+      taken : After NetlistStep l.netlist start l.records.earlier (l.group, l.draft);
+      reached : Reached l.group l.draft;
     }
 
 abbrev pub decreases-loop-spot : goal.decreases-loop-spot

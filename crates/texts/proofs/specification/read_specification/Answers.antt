@@ -1,6 +1,5 @@
 use Rattle.std.proofs.Common.{refl, subst, ◌∙◌, rules}
 use Rattle.std.proofs.lemmas.Result.{err_from_is_err_and, MatchResult-at_ok, MatchResult-at_err}
-use Rattle.circuits.specs.Drafts.{draft_parts}
 use Rattle.texts.specs.declared.fault.Text.TheVariants.{Specification}
 use Rattle.texts.specs.Nexts.{spot_fault, NextRecord}
 use Rattle.texts.specs.Specification.{RowStep}
@@ -27,7 +26,7 @@ returns-in_err-map_err c =
     let now = c.loop-spot.invariant in
     let given = c.in-Some.ensures.steps in
     let (cause, err, told) = mapped_err _ c.take_row.result c.map_err.result c.map_err.ensures.cases (spot_fault Specification c.in-Some.spot) _ c.in_err-map_err.was (λ d k. search rules) in
-    rw (p.1, p.2) (going_stopped RowStep c.args.specification.now _ c.loop-spot.records now.same_text c.next.new.self (c.in-Some.spot, c.in-Some.«record») given Specification (draft_parts c.loop-spot.draft) cause c.in_err-map_err.field-0.0 told now.taken (MatchResult-at_err _ _ cause err c.take_row.ensures))
+    rw (p.1, p.2) (going_stopped RowStep c.args.specification.now _ c.loop-spot.records now.same_text c.next.new.self (c.in-Some.spot, c.in-Some.«record») given Specification c.loop-spot.draft cause c.in_err-map_err.field-0.0 told now.taken (MatchResult-at_err _ _ cause err c.take_row.ensures))
 
 pub returns-then-rest-ne0 : goal.returns-then-rest-ne0
 returns-then-rest-ne0 c =

@@ -2,7 +2,6 @@ use Rattle.std.proofs.Common.{sym, ap, ◌∙◌}
 use Rattle.std.proofs.lemmas.Option.{MatchOption-at_some, MatchOption-at_none}
 use Rattle.std.proofs.lemmas.Result.{err_from_is_err_and}
 use Rattle.circuits.specs.Circuits.{name_bytes}
-use Rattle.circuits.specs.Drafts.{draft_parts}
 use Rattle.texts.specs.declared.fault.Cause.TheVariants.{Shape}
 use Rattle.texts.specs.Shapes.{row_fields}
 use Rattle.texts.specs.Specification.{shapeless}
@@ -30,6 +29,6 @@ returns c =
     let row = c.in_ok-row.row in
     let parts = MatchOption-at_some _ _ row c.in_ok-row.ensures.ok_part c.row_shape.ensures in
     let named = MatchOption-at_some _ _ c.in_ok-output.output c.in_ok-output.ensures.ok_part c.new.ensures in
-    row_step (draft_parts c.args.draft.now) _ c.args.«record».now (name_bytes c.in_ok-output.output) row.pattern.now row.value.now c.add_row.result
+    row_step c.args.draft.now _ c.args.«record».now (name_bytes c.in_ok-output.output) row.pattern.now row.value.now c.add_row.result
     (record { good = c.in_ok-output.output.good; parts = parts ∙ ap (λ x. row_fields x row.pattern.now row.value.now) (sym named.1) })
     c.add_row.ensures

@@ -1,20 +1,21 @@
-use Rattle.std.proofs.Common.{◌≡◌, true, [], ◌∷◌, refl, rules}
-use Rattle.circuits.specs.Drafts.{draft_parts}
+use Rattle.std.proofs.Common.{◌≡◌, true, [], ◌∷◌, None, refl, rules}
+use Rattle.std.proofs.lemmas.Result.{MatchResult-at_ok}
+use Rattle.circuits.specs.Drafts.{input_fault}
 use Rattle.circuits.specs.Names.{letters, is_name}
-use Rattle.circuits.proofs.Rules.{whole}
-use Rattle.circuits.proofs.Starts.{smallest_legal}
+use Rattle.circuits.proofs.Starts.{input_starts, smallest_legal}
 use Rattle.circuits.proofs.design.Design.new.Goals as goal
 
 pub unwrap-name-requires : goal.unwrap-name-requires
 unfolding is_name letters
 unwrap-name-requires c = let good : is_name (97 ∷ []) ≡ true = refl in search rules
 
-pub invariant_of-draft : goal.invariant_of-draft
-invariant_of-draft c =
-    let d = draft_parts c.in_ok-draft.draft in
-    let l = smallest_legal d _ _ _ c.in_ok-draft.ensures c.push_reserved.ensures.items c.push_reserved-2.ensures.items in
-    record { lawful = (whole _ _ l).draft; room = rw (c.push_reserved.ensures.capacity, c.push_reserved-2.ensures.capacity) c.in_ok-draft.draft.room }
+pub unwrap-requires : goal.unwrap-requires
+unwrap-requires c =
+    let none : input_fault c.in_ok-draft.draft c.unwrap-name.result ≡ None = rw c.in_ok-draft.ensures (input_starts c.unwrap-name.result) in
+    search rules
 
 pub invariant_of-result : goal.invariant_of-result
 invariant_of-result c =
-    record { lawful = smallest_legal (draft_parts c.in_ok-draft.draft) _ _ _ c.in_ok-draft.ensures c.push_reserved.ensures.items c.push_reserved-2.ensures.items }
+    let one = MatchResult-at_ok _ _ c.unwrap.result c.unwrap.ensures c.add_input.ensures in
+    let two = MatchResult-at_ok _ _ c.unwrap-2.result c.unwrap-2.ensures c.add_output.ensures in
+    rw (two.1, one.1, c.in_ok-draft.ensures) (smallest_legal c.unwrap-name.result)

@@ -5,8 +5,8 @@ use Rattle.circuits.proofs.draft.Draft.complete.Goals as goal
 pub invariant_of-design : goal.invariant_of-design
 invariant_of-design c =
     let k = legal_from _ _ (record {
-      some_input = some_there c.args.self.now.circuit.inputs c.if-is_empty.ensures;
-      some_output = some_there c.args.self.now.circuit.outputs c.if-is_empty-2.ensures;
-      draft = c.args.self.now.lawful;
+      some_input = some_there c.self.inside.circuit.inputs c.if-is_empty.ensures;
+      some_output = some_there c.self.inside.circuit.outputs c.if-is_empty-2.ensures;
+      draft = c.self.invariant.lawful;
     }) in
-    record { lawful = rw c.swap.ensures.y_after k }
+    rw (c.swap.ensures.y_after, ← c.self.view_is) k

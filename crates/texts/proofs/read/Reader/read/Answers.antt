@@ -1,6 +1,5 @@
 use Rattle.std.proofs.Common.{sym, refl, subst}
 use Rattle.std.proofs.lemmas.Result.{err_from_is_err_and, MatchResult-at_ok}
-use Rattle.circuits.specs.Drafts.{design_parts, draft_parts}
 use Rattle.texts.specs.Reading.{Accepted, specification_refused}
 use Rattle.texts.specs.Specification.{SpecificationRead}
 use Rattle.texts.proofs.Exits.{done}
@@ -38,11 +37,11 @@ unwrap-requires c = done _ _ _ c.complete.result c.complete.ensures (λ f. read_
 pub returns : goal.returns
 returns c =
     let told = MatchResult-at_ok _ _ c.unwrap.result c.unwrap.ensures c.complete.ensures in
-    let read : Accepted c.args.netlist.now c.args.specification.now (design_parts c.complete.new.design) = record {
+    let read : Accepted c.args.netlist.now c.args.specification.now c.complete.new.design = record {
       short_netlist = c.in_ok-check_length.ensures;
-      circuit = draft_parts c.read_netlist.new.draft;
+      circuit = c.read_netlist.new.draft;
       netlist_read = c.in_ok-read_netlist.ensures;
       short_specification = c.in_ok-check_length-2.ensures;
-      specification_read = subst (SpecificationRead c.args.specification.now (draft_parts c.read_netlist.new.draft)) (sym told.1.0) c.in_ok-read_specification.ensures;
+      specification_read = subst (SpecificationRead c.args.specification.now c.read_netlist.new.draft) (sym told.1.0) c.in_ok-read_specification.ensures;
     } in
     record { exact = read; writing = accepted_writes c.args.netlist.now c.args.specification.now _ read; told = tt }
