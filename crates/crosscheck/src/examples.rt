@@ -67,7 +67,13 @@ fn a_fifth_pin_is_refused(rt: HostRuntime) -> Result<(), Fail> {
         assert!(rt; pins.push(Pin { stem, mark: true }).is_ok());
     }
     let four = pins.clone()?;
-    assert_eq!(rt; pins.push(Pin { stem: 4, mark: true }), Err(Full));
+    assert_eq!(rt;
+        pins.push(Pin {
+            stem: 4,
+            mark: true
+        }),
+        Err(Full)
+    );
     assert!(rt; pins == four && pins != Pins::none());
     Ok(())
 }
