@@ -1,7 +1,6 @@
 mod Splits
 mod Exits
 mod Words
-mod Forms
 mod Lookups
 mod Pinning
 mod Additions

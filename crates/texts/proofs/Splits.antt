@@ -1,10 +1,11 @@
--- Bytes before and after the first of a kind, and the fields of a record.
-use Rattle.std.proofs.Common.{◌≡◌, ℕ, suc, ◌+◌, ◌-◌, ◌<◌, ◌≤◌, true, false, cond, eqb, ltb, List, [], ◌∷◌, length, take, drop, Some, None, Option, MatchOption, sym, refl, ap, ◌∙◌, inl, inr, arith}
-use Rattle.std.proofs.lemmas.List.{take_all, take_rest, length-drop}
+-- Bytes before the first of a kind, and the fields of a record.
+use Rattle.std.proofs.Common.{◌≡◌, ℕ, ◌+◌, ◌-◌, ◌<◌, ◌≤◌, Bool, true, false, cond, eqb, ltb, List, [], ◌∷◌, length, take, drop, Some, None, Option, MatchOption, sym, refl, ap, ◌∙◌, inl, inr, arith}
+use Rattle.std.proofs.lemmas.List.{take_rest, length-drop}
 use Rattle.std.proofs.lemmas.Bool.{cases_Bool, cond-true, cond-false, ltb-true, ltb-false}
 use Rattle.std.specs.List.{position, position_or_len, slice_split, onto_first}
 use Rattle.std.proofs.lemmas.List.Recursion.{is_position_or_len}
-use Rattle.texts.specs.Records.{before, after, comma, feed, record_at, fields, in_first, fields_left}
+use Rattle.std.proofs.lemmas.List.Splits.{slice_split_first, length-slice_split}
+use Rattle.texts.specs.Records.{before, comma, feed, record_at, fields, in_first}
 
 -- how many bytes stand before the first that is c
 before_length : (c : ℕ) (bs : List ℕ) → length (before c bs) ≡ position_or_len (λ b. eqb b c) bs
@@ -13,27 +14,19 @@ before_length c bs =
     is_position_or_len (λ xs. length (before c xs)) (λ b. eqb b c) refl
     (λ x xs. elim (eqb x c) as (λ t. length (cond t [] (x ∷ before c xs)) ≡ cond t 0 (1 + length (before c xs))) [ true ↦ refl | false ↦ omega arith ]) bs
 
--- front is what stands before a byte of bs, and rest what follows that byte
-pub record Cut (bs front : List ℕ) (rest : Option (List ℕ)) : Type 0 where
+-- front is what stands before a byte of bs, or all
+pub record Cut (bs front : List ℕ) : Type 0 where
   pub within : length front ≤ length bs
   pub first : take (length front) bs ≡ front
-  pub none : length front ≡ length bs → rest ≡ None
-  pub some : length front < length bs → rest ≡ Some (drop (length front + 1) bs)
 
-pub cut : (c : ℕ) (bs : List ℕ) → Cut bs (before c bs) (after c bs)
-unfolding before after
-cut c [] = record { within = omega arith; first = refl; none = λ _. refl; some = λ h. absurd (omega arith) }
+cut : (c : ℕ) (bs : List ℕ) → Cut bs (before c bs)
+unfolding before
+cut c [] = record { within = omega arith; first = refl }
 cut c (b ∷ bs) =
     let h = cut c bs in
-    let n : suc (length (before c bs)) + 1 ≡ suc (length (before c bs) + 1) = omega arith in
-    elim (eqb b c) as (λ t. Cut (b ∷ bs) (cond t [] (b ∷ before c bs)) (cond t (Some bs) (after c bs))) [
-      | true ↦ record { within = omega arith; first = refl; none = λ e. absurd (omega arith); some = λ _. refl }
-      | false ↦ record {
-        within = omega arith;
-        first = ap (λ x. b ∷ x) h.first;
-        none = λ e. h.none (omega arith);
-        some = λ l. h.some (omega arith) ∙ ap (λ k. Some (drop k (b ∷ bs))) (sym n);
-      }
+    elim (eqb b c) as (λ t. Cut (b ∷ bs) (cond t [] (b ∷ before c bs))) [
+      | true ↦ record { within = omega arith; first = refl }
+      | false ↦ record { within = omega arith; first = ap (λ x. b ∷ x) h.first }
     ]
 
 -- what a search for c finds
@@ -47,16 +40,6 @@ before_found c bs r e =
       | inr f ↦ let m = ltb-false (position_or_len (λ b. eqb b c) bs) (length bs) f in
           let w = k.within in
           rw (e ∙ cond-false _ (Some (position_or_len (λ b. eqb b c) bs)) None f) (omega arith)
-    ]
-
--- the first field, and the fields of what is left
-pub fields_cut : (bs : List ℕ) → fields bs ≡ before comma bs ∷ fields_left (after comma bs)
-unfolding fields before after
-fields_cut [] = refl
-fields_cut (b ∷ bs) =
-    elim (eqb b comma) as (λ t. cond t ([] ∷ fields bs) (in_first b (fields bs)) ≡ cond t [] (b ∷ before comma bs) ∷ fields_left (cond t (Some bs) (after comma bs))) [
-      | true ↦ refl
-      | false ↦ ap (in_first b) (fields_cut bs)
     ]
 
 -- the fields in the library's words
@@ -73,25 +56,25 @@ fields_split (b ∷ bs) =
     same [] = refl
     same (f ∷ fs) = refl
 
--- What a search for the first comma finds: n bytes before it, or all.
-pub record Parted (bs front : List ℕ) (rest : Option (List ℕ)) : Type 0 where
-  pub field : front ≡ before comma bs
-  pub left : rest ≡ after comma bs
-  pub all : fields bs ≡ front ∷ fields_left rest
+-- the fields of a record where a search for the first comma finds none, or n bytes before it
+pub fields_whole : (bs : List ℕ) → length (before comma bs) ≡ length bs → fields bs ≡ bs ∷ []
+unfolding fields before
+fields_whole [] e = refl
+fields_whole (b ∷ bs) e =
+    (elim (eqb b comma) as (λ t. length (cond t [] (b ∷ before comma bs)) ≡ length (b ∷ bs) → cond t ([] ∷ fields bs) (in_first b (fields bs)) ≡ (b ∷ bs) ∷ []) [
+      | true ↦ λ h. absurd (omega arith)
+      | false ↦ λ h. ap (in_first b) (fields_whole bs (omega arith))
+    ]) e
 
-parted : (bs front : List ℕ) (rest : Option (List ℕ)) → front ≡ before comma bs → rest ≡ after comma bs → Parted bs front rest
-parted bs front rest e f = record { field = e; left = f; all = rw (e, f) (fields_cut bs) }
+pub fields_at : (bs : List ℕ) (n : ℕ) → n ≡ length (before comma bs) → n < length bs → fields bs ≡ take n bs ∷ fields (take (length bs - (n + 1)) (drop (n + 1) bs))
+fields_at bs n e h =
+    let p : ℕ → Bool = λ b. eqb b comma in
+    let at : n ≡ position_or_len p bs = e ∙ before_length comma bs in
+    rw (take_rest bs (n + 1), fields_split bs, fields_split (drop (n + 1) bs), at) (slice_split_first p bs 0 (omega arith))
 
-pub parted_whole : (bs : List ℕ) → length (before comma bs) ≡ length bs → Parted bs bs None
-parted_whole bs e =
-    let k = cut comma bs in
-    parted bs bs None (sym (take_all (length (before comma bs)) bs (omega arith)) ∙ k.first) (sym (k.none e))
-
-pub parted_at : (bs : List ℕ) (n : ℕ) → n ≡ length (before comma bs) → n < length bs → Parted bs (take n bs) (Some (take (length bs - (n + 1)) (drop (n + 1) bs)))
-parted_at bs n e h =
-    let k = cut comma bs in
-    let l : length (before comma bs) < length bs = omega arith in
-    parted bs _ _ (ap (λ m. take m bs) e ∙ k.first) (ap Some (take_rest bs (n + 1) ∙ ap (λ m. drop (m + 1) bs) e) ∙ sym (k.some l))
+-- every record has a field
+pub some_field : (bs : List ℕ) → 1 ≤ length (fields bs)
+some_field bs = rw (fields_split bs, length-slice_split) (omega arith)
 
 -- a record lies within its text
 pub record_within : (bs : List ℕ) (place : ℕ) → place ≤ length bs → place + length (record_at bs place) ≤ length bs

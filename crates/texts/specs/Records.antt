@@ -1,15 +1,10 @@
 -- The records of a text, and the fields of a record.
-use Rattle.std.specs.Prelude.{ℕ, cond, List, [], ◌∷◌, drop, Some, None, Option, ◌==◌}
+use Rattle.std.specs.Prelude.{ℕ, cond, List, [], ◌∷◌, drop, ◌==◌}
 
 -- the bytes before the first that is c, or all
 unfoldable pub before : ℕ → List ℕ → List ℕ
 before c [] = []
 before c (b ∷ bs) = cond (b == c) [] (b ∷ before c bs)
-
--- what follows the first byte that is c, if there is one
-unfoldable pub after : ℕ → List ℕ → Option (List ℕ)
-after c [] = None
-after c (b ∷ bs) = cond (b == c) (Some bs) (after c bs)
 
 -- A line feed, byte 10, ends a record, and a comma, byte 44, parts two fields.
 abbrev pub feed : ℕ
@@ -31,8 +26,3 @@ in_first b (f ∷ fs) = (b ∷ f) ∷ fs
 unfoldable pub fields : List ℕ → List (List ℕ)
 fields [] = [] ∷ []
 fields (b ∷ bs) = cond (b == comma) ([] ∷ fields bs) (in_first b (fields bs))
-
--- the fields of what is left of a record
-abbrev pub fields_left : Option (List ℕ) → List (List ℕ)
-fields_left None = []
-fields_left (Some bs) = fields bs

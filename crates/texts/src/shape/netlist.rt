@@ -4,7 +4,7 @@ ghost use Rattle.texts.specs.Records.{fields};
 ghost use Rattle.texts.specs.Shapes.{is_pin, all_pins, Apart};
 
 use crate::field::{kind_of, marked};
-use crate::record::{first_field, only_field};
+use crate::record::{only_field, split_once};
 use crate::shape::Shaped;
 use circuits::Name;
 
@@ -32,15 +32,12 @@ fn input_shape(record: &[u8]) -> Option<Shaped<'_>>
 }
 
 // What follows `gate,`.
+#[tactic(auto, using(crate::proofs::Splits::some_field))]
 fn gate_shape(record: &[u8]) -> Option<Shaped<'_>>
     ensures { Apart (codes "gate" ∷ fields «record».now) result }
 {
-    let (name, Some(rest)) = first_field(record) else {
-        return None;
-    };
-    let (kind, Some(pins)) = first_field(rest) else {
-        return None;
-    };
+    let (name, rest) = split_once(record)?;
+    let (kind, pins) = split_once(rest)?;
     let name = Name::new(name)?;
     let kind = kind_of(kind)?;
     if !pins_shaped(pins) {
@@ -53,9 +50,7 @@ fn gate_shape(record: &[u8]) -> Option<Shaped<'_>>
 fn output_shape(record: &[u8]) -> Option<Shaped<'_>>
     ensures { Apart (codes "out" ∷ fields «record».now) result }
 {
-    let (name, Some(rest)) = first_field(record) else {
-        return None;
-    };
+    let (name, rest) = split_once(record)?;
     let (mark, stem) = marked(only_field(rest)?);
     let name = Name::new(name)?;
     let stem = Name::new(stem)?;
@@ -66,9 +61,7 @@ fn output_shape(record: &[u8]) -> Option<Shaped<'_>>
 pub(crate) fn netlist_shape(record: &[u8]) -> Option<Shaped<'_>>
     ensures { Apart (fields «record».now) result }
 {
-    let (word, Some(rest)) = first_field(record) else {
-        return None;
-    };
+    let (word, rest) = split_once(record)?;
     match word {
         b"in" => input_shape(rest),
         b"gate" => gate_shape(rest),

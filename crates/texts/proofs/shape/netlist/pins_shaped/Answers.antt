@@ -1,11 +1,17 @@
-use Rattle.std.proofs.Common.{eqb, ap, sym, ◌∙◌, rules, tests}
+use Rattle.std.proofs.Common.{◌≡◌, ℕ, ◌&&◌, eqb, List, [], ◌∷◌, ap, sym, refl, ◌∙◌, rules, tests}
 use Rattle.std.proofs.lemmas.Iterator.Search.{all_from_yields_List}
 use Rattle.std.proofs.lemmas.Iterator.Splits.{YieldsList-from_slice_split}
+use Rattle.std.specs.List.{list_all}
 use Rattle.texts.specs.Records.{comma}
 use Rattle.texts.specs.Shapes.{is_pin, all_pins}
-use Rattle.texts.proofs.Forms.{all_pins_all}
 use Rattle.texts.proofs.Splits.{fields_split}
 use Rattle.texts.proofs.shape.netlist.pins_shaped.Goals as goal
+
+-- whether each is a pin, in the library's words
+all_pins_all : (ps : List (List ℕ)) → all_pins ps ≡ list_all is_pin ps
+unfolding all_pins
+all_pins_all [] = refl
+all_pins_all (p ∷ ps) = ap (λ t. is_pin p && t) (all_pins_all ps)
 
 pub returns : goal.returns
 returns c =
