@@ -10,18 +10,18 @@ use Rattle.calls.specs.declared.request.Request.{Request}
 use Rattle.calls.specs.declared.request.Request.TheVariants.{Start, Yield, Majority, Value, Length, Release}
 
 -- the name of a request
-abbrev pub call_word : Request → List ℕ
-call_word (Start n) = codes "start"
-call_word (Yield (Variable v)) = codes "variable"
-call_word (Yield (Join And f g)) = codes "and"
-call_word (Yield (Join Or f g)) = codes "or"
-call_word (Yield (Join Xor f g)) = codes "xor"
-call_word (Majority f g h) = codes "majority"
-call_word (Yield (Flip f)) = codes "flip"
-call_word (Yield (Fix f b)) = codes "fix"
-call_word (Value f e a) = codes "value"
-call_word Length = codes "length"
-call_word (Release m) = codes "release"
+abbrev pub request_word : Request → List ℕ
+request_word (Start n) = codes "start"
+request_word (Yield (Variable v)) = codes "variable"
+request_word (Yield (Join And f g)) = codes "and"
+request_word (Yield (Join Or f g)) = codes "or"
+request_word (Yield (Join Xor f g)) = codes "xor"
+request_word (Majority f g h) = codes "majority"
+request_word (Yield (Flip f)) = codes "flip"
+request_word (Yield (Fix f b)) = codes "fix"
+request_word (Value f e a) = codes "value"
+request_word Length = codes "length"
+request_word (Release m) = codes "release"
 
 -- the number at a place of three
 abbrev at : List ℕ → ℕ → ℕ

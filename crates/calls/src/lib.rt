@@ -1,4 +1,4 @@
-//! The calls of a function store as values, as a table of calls writes them.
+//! What a line of a table asks of a store.
 #![tactic(auto)]
 
 mod request;

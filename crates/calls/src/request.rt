@@ -1,11 +1,11 @@
 //! What a line of a table asks of a store, by its name and its numbers.
-ghost use Rattle.std.specs.Prelude.{◌≡◌, MatchOption, ◌≢◌};
-ghost use Rattle.calls.specs.Calls.{call_word, HasNumbers};
+ghost use Rattle.std.specs.Prelude.{◌≡◌, IfSome, MatchOption, ◌≢◌};
+ghost use Rattle.calls.specs.Calls.{request_word, HasNumbers};
 
 use stores::{Call, Operation};
 
 /// What a line of a table asks of a store, with what is passed to it.
-#[derive(Clone, Copy)]
+#[derive(Clone, Copy, Debug, PartialEq, Eq)]
 pub enum Request {
     Start(usize),
     Yield(Call),
@@ -16,10 +16,11 @@ pub enum Request {
 }
 
 impl Request {
-    /// The request of this name with the first of these numbers that it takes, where a bit is written 1 or another
-    /// number. None where no request has the name.
+    /// The request of this name, with what it takes of these three numbers, in order; a bit is 1 where its number is 1.
+    /// None where no request has the name.
     pub fn named(name: &str, numbers: [usize; 3]) -> Option<Request>
-        ensures { MatchOption result ((c : Request) → name.now ≢ call_word c) (λ c. (name.now ≡ call_word c) × HasNumbers c numbers) }
+        ensures word { MatchOption result ((c : Request) → name.now ≢ request_word c) (λ c. name.now ≡ request_word c) }
+        ensures numbers { IfSome result (λ c. HasNumbers c numbers) }
     {
         let [a, b, c] = numbers;
         match name {

@@ -11,8 +11,10 @@ pub(crate) fn run_table(rt: &HostRuntime, places: usize, table: &str) -> anyhow:
         let name = fields.next().unwrap_or("");
         let mut numbers = [0; 3];
         for number in &mut numbers {
+            // the number that the word writes, or 0
             *number = fields.next().unwrap_or("").parse::<usize>().unwrap_or(0);
         }
+        // any other word asks for the length
         let request = Request::named(name, numbers).unwrap_or(Request::Length);
         match request.run(&mut store) {
             Ok(answer) => println!(rt; "{answer}")?,

@@ -1,6 +1,6 @@
 //! The chains by which the row with a node is found: each row is linked to the newest earlier row of its chain, and
 //! each chain has a head, its newest row.
-ghost use Rattle.std.specs.Prelude.{◌≡◌, ◌<◌, ◌≤◌, length, None};
+ghost use Rattle.std.specs.Prelude.{◌≡◌, ◌≢◌, ◌<◌, ◌≤◌, length, None};
 ghost use Rattle.diagram.specs.Chains.{chain};
 ghost use Rattle.diagram.specs.Diagrams.{Standing, Later, Appended, Cut};
 
@@ -34,7 +34,7 @@ impl Diagram<'_> {
     pub(crate) fn append(&mut self, node: Node)
         requires room { self.old.len < length self.old.rows.now }
         requires later { Later self.old node.variable node.low node.high }
-        requires differ { node.low ≡ node.high → ⊥ }
+        requires differ { node.low ≢ node.high }
         requires fresh { Standing self.old node None }
         ensures { Appended self.old node self.new }
     {

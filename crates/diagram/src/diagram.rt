@@ -11,7 +11,7 @@ use stores::StoreFault;
 #[derive(Drop)]
 pub struct Diagram<'a> {
     pub(crate) rows: &'a mut [Row],
-    // the handle of each chain's newest row
+    // the handle of each chain's newest row, in a table of fixed size: the store takes no memory of its own
     pub(crate) heads: [Option<u16>; 1024],
     // how many rows are in use, beside them since their memory is lent
     pub(crate) len: usize,
@@ -39,7 +39,7 @@ impl<'a> Diagram<'a> {
 
     // Refuses a handle that is not held.
     #[tactic(auto, using(crate::proofs::Rows::functions_length))]
-    pub(crate) fn held(&self, h: usize) -> Result<(), StoreFault>
+    pub(crate) fn admit(&self, h: usize) -> Result<(), StoreFault>
         ensures { Admits self.now h result }
     {
         if h < self.len + 2 {
@@ -49,12 +49,14 @@ impl<'a> Diagram<'a> {
         }
     }
 
+    // The calls of a store take handles as plain numbers, so each method below asks that its handles are held.
+
     // The variable of a handle's row, or the number after all variables where it is a constant's.
-    // The calls of a store take handles as plain numbers, so each method asks that its handles are held.
     pub(crate) fn top(&self, h: usize) -> usize
         requires { Held self.now h }
         ensures { result ≡ top_of self.now h }
     {
+        // Handles 0 and 1 are positions in the list that the interface fixes: false and true.
         if h < 2 {
             return self.inputs + 1;
         }
@@ -79,7 +81,8 @@ impl<'a> Diagram<'a> {
         }
     }
 
-    // Yields the function that is low's where variable v is 0, and high's where it is 1.
+    // Yields the function that is low's where variable v is 0, and high's where it is 1. These are not yet a `Node`: the
+    // handles are as the calls give them, and not as a row holds them.
     pub(crate) fn node(&mut self, v: usize, low: usize, high: usize) -> Result<usize, StoreFault>
         requires { Later self.old v low high }
         ensures extends { Extends self.old self.new }

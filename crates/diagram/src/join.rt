@@ -12,6 +12,7 @@ use stores::{Operation, StoreFault};
 fn settled(op: Operation, f: usize, g: usize) -> Option<usize>
     ensures { Settled op f g result }
 {
+    // Handles 0 and 1 are positions in the list that the interface fixes: false and true.
     match (op, f, g) {
         (Operation::And, 0, _) | (Operation::And, _, 0) => Some(0),
         (Operation::And, 1, h) | (Operation::And, h, 1) => Some(h),

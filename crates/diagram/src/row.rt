@@ -10,7 +10,7 @@ pub(crate) struct Node {
 
 /// A row of a diagram: the node of the row's function. A row also has the link of its chain, for the search for equal
 /// rows.
-#[derive(Clone, Copy, Debug)]
+#[derive(Clone, Copy, Debug, PartialEq, Eq)]
 pub struct Row {
     pub(crate) node: Node,
     pub(crate) next: Option<u16>,

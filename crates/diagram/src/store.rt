@@ -28,26 +28,26 @@ impl Store for Diagram<'_> {
     }
 
     fn join(&mut self, op: Operation, f: usize, g: usize) -> Result<usize, StoreFault> {
-        self.held(f)?;
-        self.held(g)?;
+        self.admit(f)?;
+        self.admit(g)?;
         self.join_whole(op, f, g)
     }
 
     // The complement is the xor with true.
     fn flip(&mut self, f: usize) -> Result<usize, StoreFault> {
-        self.held(f)?;
+        self.admit(f)?;
         self.join_whole(Operation::Xor, f, 1)
     }
 
     // e is the first variable, so what is left of a function where it is set is held.
     fn fix(&mut self, f: usize, bit: bool) -> Result<usize, StoreFault> {
-        self.held(f)?;
+        self.admit(f)?;
         let (low, high) = self.parts(f, 0);
         Ok(if bit { high } else { low })
     }
 
     fn value(&self, f: usize, e: bool, a: usize) -> Result<bool, StoreFault> {
-        self.held(f)?;
+        self.admit(f)?;
         if 1 << self.inputs <= a {
             return Err(StoreFault::Bounds);
         }

@@ -5,7 +5,7 @@ ghost use Rattle.memo.specs.Calls.{place_of};
 use stores::Call;
 
 /// A call that was answered: the handle, and the length of the list at its end.
-#[derive(Clone, Copy)]
+#[derive(Clone, Copy, Debug, PartialEq, Eq)]
 pub struct Entry {
     pub(crate) call: Call,
     pub(crate) answer: usize,
@@ -13,7 +13,8 @@ pub struct Entry {
 }
 
 // The place of a call among the 64 entries, by its two numbers and the number of what it does. A fix has the bit as its
-// second number; a flip and a variable have 0.
+// second number; a flip and a variable have 0. The documents name these numbers, and what a program prints depends on
+// them.
 #[tactic(auto, unfolding(crate::specs::Calls::place_of))]
 pub(crate) fn place(call: Call) -> usize
     ensures { (result ≡ place_of call) × (result < 64) }

@@ -7,4 +7,5 @@ mod store;
 
 pub use entry::Entry;
 pub use memo::Memo;
+// what a memo remembers
 pub use stores::Call;

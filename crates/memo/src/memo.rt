@@ -12,6 +12,7 @@ use stores::{Call, Store, StoreFault};
 #[derive(Drop)]
 pub struct Memo<S: Store> {
     pub(crate) below: S,
+    // a table of fixed size: the memo takes no memory of its own
     pub(crate) entries: [Option<Entry>; 64],
     ghost sound: { SoundMemo S.Store.keeping (S.Store.meaning below) entries } by { SoundMemo-prop S.Store.keeping (S.Store.meaning below) entries },
 }
@@ -65,7 +66,8 @@ impl<S: Store> Memo<S> {
     }
 }
 
-// Forgets each call that ended with a longer list than k.
+// Forgets each call that ended with a longer list than k. It takes the entries alone: between the cut of the list below
+// and this the memo's fact does not hold.
 pub(crate) fn forget(entries: &mut [Option<Entry>], k: usize)
     ensures { Forgets k entries.old entries.new }
 {

@@ -1,11 +1,23 @@
 //! A store that counts the calls that reach it.
-use stores::{Operation, Store, StoreFault};
+ghost use Rattle.stores.specs.Calls.{Asks};
+
+use stores::{Call, Operation, Store, StoreFault};
 
 /// A store over another that counts the calls that yield a function.
 #[derive(Drop)]
 pub(crate) struct Counting<S: Store> {
     pub(crate) below: S,
     pub(crate) calls: usize,
+}
+
+impl<S: Store> Counting<S> {
+    // Counts a call that yields a function, and makes it of the store below.
+    fn answer(&mut self, call: Call) -> Result<usize, StoreFault>
+        ensures { Asks S.Store.keeping (S.Store.meaning self.old.below) call result (S.Store.meaning self.new.below) }
+    {
+        self.calls = self.calls.wrapping_add(1);
+        call.ask(&mut self.below)
+    }
 }
 
 impl<S: Store> Store for Counting<S> {
@@ -18,23 +30,19 @@ impl<S: Store> Store for Counting<S> {
     }
 
     fn variable(&mut self, v: usize) -> Result<usize, StoreFault> {
-        self.calls = self.calls.wrapping_add(1);
-        self.below.variable(v)
+        self.answer(Call::Variable(v))
     }
 
     fn join(&mut self, op: Operation, f: usize, g: usize) -> Result<usize, StoreFault> {
-        self.calls = self.calls.wrapping_add(1);
-        self.below.join(op, f, g)
+        self.answer(Call::Join(op, f, g))
     }
 
     fn flip(&mut self, f: usize) -> Result<usize, StoreFault> {
-        self.calls = self.calls.wrapping_add(1);
-        self.below.flip(f)
+        self.answer(Call::Flip(f))
     }
 
     fn fix(&mut self, f: usize, bit: bool) -> Result<usize, StoreFault> {
-        self.calls = self.calls.wrapping_add(1);
-        self.below.fix(f, bit)
+        self.answer(Call::Fix(f, bit))
     }
 
     fn value(&self, f: usize, e: bool, a: usize) -> Result<bool, StoreFault> {

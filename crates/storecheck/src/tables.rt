@@ -21,6 +21,7 @@ fn digest<S: Store>(store: &S, h: usize, inputs: usize) -> u64 {
 
 // A number of a line: after `h` the number itself, after `r` what the line of that number answered.
 fn operand(kind: Option<&str>, word: Option<&str>, answers: &[usize]) -> usize {
+    // the number that the word writes, or 0
     let n = word.unwrap_or("").parse::<usize>().unwrap_or(0);
     match kind {
         Some("r") => answers.get(n).copied().unwrap_or(0),
@@ -45,6 +46,7 @@ pub(crate) fn run_table<S: Store>(
         for number in &mut numbers {
             *number = operand(fields.next(), fields.next(), answers.as_slice());
         }
+        // any other word asks for the length
         let request = Request::named(name, numbers).unwrap_or(Request::Length);
         let answer = request.run(store);
         answers.push(answer.unwrap_or(0))?;

@@ -21,10 +21,6 @@ unfoldable pub good_words : (n len : ℕ) (ws : List ℕ) → SoundOf n len ws �
 good_words n len ws s =
     record { others = map of_word (take len ws); begins = refl; apart = s.apart; few = s.few; fits = let l = s.within in omega (arith, length-map (take len ws) of_word, length-take len ws) }
 
--- words that are equal as functions are equal
-pub word_of : (n a b : ℕ) → a < 2 ^ points n → b < 2 ^ points n → Same n (of_word a) (of_word b) → a ≡ b
-word_of n a b l m s = bit_ext (points n) a b l m s
-
 -- a word that is neither constant nor among the words is not held
 pub not_listed : (n len : ℕ) (ws : List ℕ) (w : ℕ) → len ≤ length ws → ((k : ℕ) → k < len → get_or ws k 0 < 2 ^ points n) → w < 2 ^ points n → (w ≡ 0 → ⊥) → (w ≡ 2 ^ points n - 1 → ⊥) → ((k : ℕ) → k < len → get_or ws k 0 ≡ w → ⊥) → has n (of_word w) (listed len ws) ≡ false
 not_listed n len ws w l small f z o none =
@@ -34,12 +30,12 @@ not_listed n len ws w l small f z o none =
     ]
   where
     go : (k : ℕ) → k < len + 2 → Same n (at (listed len ws) k) (of_word w) → ⊥
-    go zero m s = z (sym (word_of n 0 w (pow_pos (points n)) f (λ p q. word_never n p q ∙ s p q)))
-    go (suc zero) m s = o (sym (word_of n (2 ^ points n - 1) w (ones_lt (points n)) f (λ p q. word_always n p q ∙ s p q)))
+    go zero m s = z (sym (bit_ext (points n) 0 w (pow_pos (points n)) f (λ p q. word_never n p q ∙ s p q)))
+    go (suc zero) m s = o (sym (bit_ext (points n) (2 ^ points n - 1) w (ones_lt (points n)) f (λ p q. word_always n p q ∙ s p q)))
     go (suc (suc k)) m s =
         let m' : k < len = omega arith in
         let e = at_listed len ws k l m' in
-        none k m' (word_of n (get_or ws k 0) w (small k m') f (λ p q. sym (ap (λ x. x p) e) ∙ s p q))
+        none k m' (bit_ext (points n) (get_or ws k 0) w (small k m') f (λ p q. sym (ap (λ x. x p) e) ∙ s p q))
 
 pub pushed : (len : ℕ) (ws : List ℕ) (w : ℕ) → len < length ws → listed (len + 1) (set ws len w) ≡ listed len ws ++ of_word w ∷ []
 pushed len ws w l = ap (λ x. never ∷ always ∷ map of_word x) (take_more_set ws len w l) ∙ ap (λ x. never ∷ always ∷ x) (map_push of_word (take len ws) w)

@@ -32,7 +32,7 @@ abbrev pub Found : Meaning → Function → Option ℕ → Type 0
 Found m f (Some h) = Stands m h f
 Found m f None = has m.inputs f m.held ≡ false
 
--- the word of a handle
+-- the word of a handle, which is refused with 15 where it is not held
 abbrev pub Reads : Meaning → ℕ → Result ℕ StoreFault → Type 0
 Reads m h (Ok w) = (w < 2 ^ points m.inputs) × Stands m h (of_word w)
 Reads m h (Err Inputs) = ⊥

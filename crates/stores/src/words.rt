@@ -41,6 +41,7 @@ impl<'a> Words<'a> {
     fn word(&self, h: usize) -> Result<u64, StoreFault>
         ensures { Reads (words_meaning self.now) h result }
     {
+        // Handles 0 and 1 are positions in the list that the interface fixes: false and true.
         match h {
             0 => Ok(0),
             1 => Ok(full(self.inputs)),
@@ -51,8 +52,8 @@ impl<'a> Words<'a> {
         }
     }
 
-    // The handle of a word's function, if it is held. That the word fits is asked: a type of words would hold the number
-    // of inputs once more.
+    // The handle of a word's function, if it is held. Callers give words without a bit past the store's points: a type of
+    // such words would have to hold the number of inputs, which the store holds already.
     fn find(&self, w: u64) -> Option<usize>
         requires fits { w < 2 ^ points self.now.inputs }
         ensures { Found (words_meaning self.now) (of_word w) result }
@@ -63,7 +64,7 @@ impl<'a> Words<'a> {
         if w == full(self.inputs) {
             return Some(1);
         }
-        place(&self.words[..self.len], w).map(|i| i + 2)
+        position_of(&self.words[..self.len], w).map(|i| i + 2)
     }
 
     // Yields a word's function.
@@ -83,13 +84,15 @@ impl<'a> Words<'a> {
     }
 }
 
-// The first place of a word among words. It is apart from `find`, which reads its clause.
-fn place(words: &[u64], w: u64) -> Option<usize>
+// The first position of a word among words.
+fn position_of(words: &[u64], w: u64) -> Option<usize>
     ensures { result ≡ position (λ x. x == w) words.now }
 {
     words.iter().position(|x| *x == w)
 }
 
+// The diagram store begins, counts and cuts in the same way, each over its own memory and limits: a trait between the
+// two would hold more than it saves.
 impl Store for Words<'_> {
     ghost use Rattle.stores.specs.WordStore.{words_meaning};
 
@@ -97,7 +100,6 @@ impl Store for Words<'_> {
 
     ghost keeping = { alone };
 
-    #[tactic(auto, using(crate::proofs::Keeping::new_sound))]
     fn start(&mut self, inputs: usize) -> Result<(), StoreFault> {
         if inputs == 0 || 5 < inputs {
             return Err(StoreFault::Inputs);

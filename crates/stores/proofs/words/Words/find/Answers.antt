@@ -10,5 +10,5 @@ returns-then-w-full c = let v = c.args.self.now in stands_one v.inputs v.len v.w
 pub returns : goal.returns
 returns c =
     let v = c.args.self.now in
-    let f : c.map.result ≡ option_map (λ i. i + 2) c.place.result = search (rules, chains) in
-    rw f (found_word v.inputs v.len v.words.now c.args.w v.sound c.requires.fits c.if-w-eq0.false (λ e. c.if-w-full.false (e ∙ sym c.full.ensures)) c.place.result (sym c.place.ensures))
+    let f : c.map.result ≡ option_map (λ i. i + 2) c.position_of.result = search (rules, chains) in
+    rw f (found_word v.inputs v.len v.words.now c.args.w v.sound c.requires.fits c.if-w-eq0.false (λ e. c.if-w-full.false (e ∙ sym c.full.ensures)) c.position_of.result (sym c.position_of.ensures))
