@@ -43,6 +43,7 @@ pub record CutOf (n : ℕ) (rows : List Row) (to n' len' : ℕ) (rows' : List Ro
 abbrev pub Cut : Diagram → ℕ → Diagram → Type 0
 Cut d to d' = CutOf d.inputs d.rows.now to d'.inputs d'.len d'.rows.now
 
+-- The calls of a store take handles as plain numbers, so each function that goes by one asks for this.
 abbrev pub Held : Diagram → ℕ → Type 0
 Held d h = h < d.len + 2
 

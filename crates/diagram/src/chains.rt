@@ -51,11 +51,11 @@ impl Diagram<'_> {
         requires { to ≤ self.old.len }
         ensures { Cut self.old to self.new }
     {
-        // Row by row, so that the heads are right for the rows that are left at each turn.
-        while to < self.len {
-            let row = self.rows[self.len - 1];
+        // From the newest row down, so that the heads are right for the rows that are left at each turn.
+        for k in (to..self.len).rev() {
+            let row = self.rows[k];
             self.heads[chain_of(row.node)] = row.next;
-            self.len -= 1;
+            self.len = k;
         }
     }
 }

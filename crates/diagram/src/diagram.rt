@@ -49,8 +49,6 @@ impl<'a> Diagram<'a> {
         }
     }
 
-    // The calls of a store take handles as plain numbers, so each method below asks that its handles are held.
-
     // The variable of a handle's row, or the number after all variables where it is a constant's.
     pub(crate) fn top(&self, h: usize) -> usize
         requires { Held self.now h }
