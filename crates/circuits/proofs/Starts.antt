@@ -1,5 +1,5 @@
 -- A draft with nothing in it, and the smallest design.
-use Rattle.std.proofs.Common.{◌≡◌, true, false, List, [], None, refl}
+use Rattle.std.proofs.Common.{◌≡◌, Bool, true, List, [], None, refl}
 use Rattle.circuits.specs.declared.gate.Gate.{Gate}
 use Rattle.circuits.specs.declared.gate.Output.{Output}
 use Rattle.circuits.specs.declared.name.Name.{Name}
@@ -18,6 +18,6 @@ module _ (x : Name) where
   unfolding position
   input_starts = refl
 
-  pub smallest_legal : legal (with_output (with_input no_parts x) (record { name = x; pin = record { stem = 0; mark = false } })).circuit [] ≡ true
+  pub smallest_legal : (m : Bool) → legal (with_output (with_input no_parts x) (record { name = x; pin = record { stem = 0; mark = m } })).circuit [] ≡ true
   unfolding legal drafted gates_legal outputs_legal position apart_from rows_legal consistent_from
-  smallest_legal = refl
+  smallest_legal m = refl

@@ -10,7 +10,7 @@ use crate::short::Short;
 pub type Pins = Short<Pin, 4>;
 
 /// A gate of a circuit.
-#[derive(Clone, Copy)]
+#[derive(Clone, Copy, Debug, PartialEq, Eq)]
 pub struct Gate {
     pub name: Name,
     pub kind: Kind,
@@ -18,7 +18,7 @@ pub struct Gate {
 }
 
 /// An output of a circuit: it reads one stem.
-#[derive(Clone, Copy)]
+#[derive(Clone, Copy, Debug, PartialEq, Eq)]
 pub struct Output {
     pub name: Name,
     pub pin: Pin,

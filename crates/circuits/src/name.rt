@@ -8,7 +8,7 @@ mod bytes;
 use crate::short::Short;
 
 /// A name: 1 to 8 bytes of `a` to `z` and `0` to `9`.
-#[derive(Clone, Copy, PartialEq, Eq)]
+#[derive(Clone, Copy, Debug, PartialEq, Eq)]
 pub struct Name {
     bytes: Short<u8, 8>,
     ghost good: { is_name (entries bytes) ≡ true },

@@ -10,7 +10,7 @@ pub(crate) use covers::bound_value;
 pub type Pattern = Short<Literal, 12>;
 
 /// A row: the output has the value wherever the pattern matches.
-#[derive(Clone, Copy)]
+#[derive(Clone, Copy, Debug, PartialEq, Eq)]
 pub struct SpecRow {
     /// The number of the output.
     pub output: usize,

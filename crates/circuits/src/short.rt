@@ -6,6 +6,7 @@ ghost use Rattle.circuits.specs.Tables.{holds_front};
 mod list;
 
 /// What stands in the places of a short list that are not used.
+// `Default` would do, but for the test of a blank value that a ghost field needs.
 pub trait Blank: Copy {
     ghost is_blank: { Self → Bool };
 
@@ -36,8 +37,8 @@ pub struct Full;
 
 /// A list of at most `N` entries, held in the value itself: they stand at the front of a table, whose other places are
 /// blank.
-// The lists of the toolchain's arrayvec are not Copy, as names, pins and patterns are.
-#[derive(Copy)]
+// Names, pins and patterns are `Copy`; the lists of the toolchain's arrayvec are not. No heap, so a table and a length.
+#[derive(Copy, Debug)]
 pub struct Short<T: Blank, const N: usize> {
     table: [T; N],
     len: usize,

@@ -11,7 +11,7 @@ use std::alloc::{AllocError, Global};
 use std::{fs, io};
 use texts::{ReadFault, Reader, TextFault};
 
-// The file's bytes, or none where there is no such file.
+// The file's bytes, or none where there is no such file: the cases end there.
 fn find(rt: &HostRuntime, path: &str) -> io::Result<Option<Vec<u8>>> {
     match fs::read(rt, path) {
         Ok(bytes) => Ok(Some(bytes)),
@@ -31,7 +31,7 @@ fn bits<F: Fn(usize) -> Option<bool>>(heap: Global, bit_at: F) -> Result<String,
     Ok(bits)
 }
 
-// Each line with its bits, by its number and back.
+// Each line with its bits, by its number and back: the numbers are what is asked for, here and below.
 fn print_lines(rt: &HostRuntime, design: &Design) -> anyhow::Result<()> {
     for line in 0..332 {
         let Some(place) = design.place(line) else {

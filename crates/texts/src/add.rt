@@ -41,8 +41,8 @@ fn read_pins(draft: &Draft, pins: &[u8]) -> Result<Pins, Cause>
 }
 
 // Adds an input.
-// What is reached is asked here and of gates and outputs: a struct that lends the draft with its group would have to say
-// in each method that it still lends the same draft.
+// This and the next two ask for what is reached: a struct of a lent draft and its group would have to say in each method
+// that the draft is still the same one.
 pub(crate) fn add_input(draft: &mut Draft, name: Name) -> Result<(), Cause>
     requires { Reached Group.Inputs draft.old }
     ensures { Settled (input_cause draft.old (name_bytes name)) (draft.new ≡ with_input draft.old name) (draft.new ≡ draft.old) result }

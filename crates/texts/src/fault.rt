@@ -47,6 +47,7 @@ pub struct TextFault {
 }
 
 /// Why reading is refused.
+// One variant today: `?` turns a text's fault into it, and other reasons can stand beside it.
 #[derive(Clone, Copy, Debug, PartialEq, Eq)]
 pub enum ReadFault {
     Text(TextFault),
@@ -66,6 +67,7 @@ impl fmt::Display for Text {
 
 impl Cause {
     /// The number that this refusal has, 1 to 8.
+    // The numbers are a rule of the project, which prints them.
     pub fn number(self) -> usize
         ensures { result ≡ cause_number self }
     {

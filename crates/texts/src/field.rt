@@ -5,7 +5,7 @@ ghost use Rattle.texts.specs.Fields.{marked_word, has_mark, past_mark, kind_word
 
 use circuits::{Kind, Literal, Pattern};
 
-// Whether the stem is read inverted, and the field without the mark that says so.
+// Whether the stem is read inverted, and the field without the mark that says so. Both are always there.
 pub(crate) fn marked(field: &[u8]) -> (bool, &[u8])
     ensures mark { result.0 ≡ has_mark field.now }
     ensures name { result.1.now ≡ past_mark field.now }
@@ -17,7 +17,8 @@ pub(crate) fn marked(field: &[u8]) -> (bool, &[u8])
     }
 }
 
-// The kind of gate that the field names, if any.
+// The kind of gate that the field names, if any. No `TryFrom`, here and below: it would have to stand in the crate of the
+// kinds and literals, which knows no text.
 pub(crate) fn kind_of(field: &[u8]) -> Option<Kind>
     ensures { MatchOption result ((k : Kind) → field.now ≢ kind_word k) (λ k. field.now ≡ kind_word k) }
 {

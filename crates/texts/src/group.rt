@@ -13,6 +13,7 @@ pub(crate) enum Group {
 }
 
 /// What a record of the netlist declares.
+// No group: which kinds of record a group still takes is told by both together, case by case.
 #[derive(Clone, Copy, Debug, PartialEq, Eq)]
 pub(crate) enum RecordKind {
     Input,

@@ -54,7 +54,7 @@ pub(crate) fn read_netlist(draft: &mut Draft, netlist: &[u8]) -> Result<(), Text
 {
     let mut group = Group::Inputs;
     let mut records = Records::new(netlist);
-    // No `for`: what is left is asked of the same iterator afterwards.
+    // No `for`: after one over `by_ref()` a proof has no name for the iterator, of which the rest is asked.
     while let Some((spot, record)) = records.next() {
         let taken = take_record(draft, group, record);
         group = taken.map_err(|cause| spot.fault(Text::Netlist, cause))?;

@@ -7,8 +7,7 @@ pub(crate) use netlist::netlist_shape;
 pub(crate) use specification::row_shape;
 
 /// A record of the netlist, the pins of a gate as they are written.
-// No `Debug`: names have none.
-#[derive(Clone, Copy, PartialEq, Eq)]
+#[derive(Clone, Copy, Debug, PartialEq, Eq)]
 pub(crate) enum Shaped<'a> {
     Input {
         name: Name,

@@ -22,7 +22,7 @@ pub(crate) fn read_specification(draft: &mut Draft, specification: &[u8]) -> Res
     ensures { MatchResult result (λ _. SpecificationRead specification.now draft.old draft.new) (λ f. SpecificationRefused specification.now draft.old f) }
 {
     let mut records = Records::new(specification);
-    // No `for`: what is left is asked of the same iterator afterwards.
+    // No `for`: after one over `by_ref()` a proof has no name for the iterator, of which the rest is asked.
     while let Some((spot, record)) = records.next() {
         take_row(draft, record).map_err(|cause| spot.fault(Text::Specification, cause))?;
     }

@@ -7,7 +7,7 @@ ghost use Rattle.circuits.specs.Shorts.{entries};
 use crate::short::{Blank, Full, Short};
 use std::alloc::AllocError;
 
-// A derive is refused on a generic struct with a ghost field.
+// A derive of `Clone` is refused on a generic struct with a ghost field.
 impl<T: Blank, const N: usize> Clone for Short<T, N> {
     ghost is_clone = { λ x y. y ≡ x };
 

@@ -18,4 +18,4 @@ pub invariant_of-result : goal.invariant_of-result
 invariant_of-result c =
     let one = MatchResult-at_ok _ _ c.unwrap.result c.unwrap.ensures c.add_input.ensures in
     let two = MatchResult-at_ok _ _ c.unwrap-2.result c.unwrap-2.ensures c.add_output.ensures in
-    rw (two.1, one.1, c.in_ok-draft.ensures) (smallest_legal c.unwrap-name.result)
+    rw (two.1, one.1, c.in_ok-draft.ensures) (smallest_legal c.unwrap-name.result _)
