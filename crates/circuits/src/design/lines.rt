@@ -1,6 +1,7 @@
 //! The lines of a design's circuit, by their numbers.
-ghost use Rattle.std.specs.Prelude.{◌≡◌, ℕ, ◌^◌, ◌<◌, length, is_some, Some, nat_lt};
+ghost use Rattle.std.specs.Prelude.{◌≡◌, ℕ, ◌^◌, ◌<◌, true, length, is_some, Some, nat_lt};
 ghost use Rattle.circuits.specs.declared.place.Place.{Place};
+ghost use Rattle.circuits.specs.Legality.{legal};
 ghost use Rattle.circuits.specs.Lines.{pin_count, line_count, line_of, place_of};
 
 use crate::counts::Counts;
@@ -17,9 +18,10 @@ fn count_pins(gates: &[Gate]) -> usize
 }
 
 impl Design {
-    /// How many inputs, gates and outputs there are.
+    /// How many inputs, gates and outputs there are. The design keeps every rule.
     pub fn counts(&self) -> Counts
-        ensures { result ≡ record { inputs = length self.now.circuit.inputs; gates = length self.now.circuit.gates; outputs = length self.now.circuit.outputs } }
+        ensures value { result ≡ record { inputs = length self.now.circuit.inputs; gates = length self.now.circuit.gates; outputs = length self.now.circuit.outputs } }
+        ensures lawful { legal self.now.circuit self.now.rows ≡ true }
     {
         let inputs = self.draft.inputs();
         let gates = self.draft.gates();

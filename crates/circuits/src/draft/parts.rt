@@ -2,7 +2,7 @@
 ghost use Rattle.std.specs.Prelude.{◌≡◌, true, [], ◌∷◌, ◌++◌, length, IfOk};
 ghost use Rattle.circuits.specs.Circuits.{net, name_bytes};
 ghost use Rattle.circuits.specs.Drafts.{no_parts, with_input, with_gate, with_output, with_row, input_fault, gate_fault, output_fault, row_fault, whole_fault, Unless};
-ghost use Rattle.circuits.specs.Legality.{position, stem_names, output_names};
+ghost use Rattle.circuits.specs.Legality.{drafted, position, stem_names, output_names};
 
 use crate::circuit::Circuit;
 use crate::design::Design;
@@ -62,9 +62,10 @@ impl Draft {
         self.circuit.outputs.len()
     }
 
-    /// How many rows there are.
+    /// How many rows there are. What was read keeps every rule.
     pub fn rows(&self) -> usize
-        ensures { result ≡ length self.now.rows }
+        ensures value { result ≡ length self.now.rows }
+        ensures lawful { drafted self.now.circuit self.now.rows ≡ true }
     {
         self.rows.len()
     }
