@@ -1,5 +1,5 @@
 //! What a draft is made from, and what it takes.
-ghost use Rattle.std.specs.Prelude.{◌≡◌, true, [], ◌∷◌, ◌++◌, length, IfOk};
+ghost use Rattle.std.specs.Prelude.{◌≡◌, true, length, IfOk};
 ghost use Rattle.circuits.specs.Circuits.{net, name_bytes};
 ghost use Rattle.circuits.specs.Drafts.{no_parts, with_input, with_gate, with_output, with_row, input_fault, gate_fault, output_fault, row_fault, whole_fault, Unless};
 ghost use Rattle.circuits.specs.Legality.{drafted, position, stem_names, output_names};
