@@ -91,8 +91,8 @@ fn position_of(words: &[u64], w: u64) -> Option<usize>
     words.iter().position(|x| *x == w)
 }
 
-// The diagram store begins, counts and cuts in the same way, each over its own memory and limits: a trait between the
-// two would hold more than it saves.
+// The diagram store is made, begins, tells a bit, counts and cuts in the same way, each over its own memory and limits: a
+// trait between the two would hold more than it saves.
 impl Store for Words<'_> {
     ghost use Rattle.stores.specs.WordStore.{words_meaning};
 
