@@ -1,4 +1,4 @@
-use Rattle.std.proofs.Common.{◌≡◌, min, arith}
+use Rattle.std.proofs.Common.{◌≡◌, min, ap, ◌∙◌, arith}
 use Rattle.diagram.specs.Diagrams.{top_of}
 use Rattle.diagram.proofs.Joining.{settled_built, low_exit, high_ready, high_exit, node_ready, whole_built}
 use Rattle.diagram.proofs.diagram.Diagram.+join_down.Goals as goal
@@ -15,7 +15,7 @@ returns-in_err-low-clause-builds t c =
 pub join_down-requires-2 : goal.join_down-requires-2
 join_down-requires-2 t c =
     let d = c.args.self.now in
-    let v : c.min-v.result ≡ min (top_of d c.args.f) (top_of d c.args.g) = cc (c.min-v.ensures, c.top.ensures, c.top-2.ensures) in
+    let v : c.min-v.result ≡ min (top_of d c.args.f) (top_of d c.args.g) = c.min-v.ensures ∙ (ap (λ z. min z c.top-2.result) c.top.ensures ∙ ap (λ z. min (top_of d c.args.f) z) c.top-2.ensures) in
     let (falls, left, right) = high_ready d.sound c.args.op c.args.f c.args.g c.parts-f_low.ensures c.parts-g_low.ensures c.in_ok-low.ensures.extends in
     let m = c.decreases in
     (omega arith, (left, right))
@@ -39,5 +39,5 @@ returns-clause-builds t c =
     let d₃ = c.node.new.self in
     let x = c.in_ok-low.ensures in
     let y = c.in_ok-high.ensures in
-    let v : c.min-v.result ≡ min (top_of d c.args.f) (top_of d c.args.g) = cc (c.min-v.ensures, c.top.ensures, c.top-2.ensures) in
+    let v : c.min-v.result ≡ min (top_of d c.args.f) (top_of d c.args.g) = c.min-v.ensures ∙ (ap (λ z. min z c.top-2.result) c.top.ensures ∙ ap (λ z. min (top_of d c.args.f) z) c.top-2.ensures) in
     whole_built d.sound c.args.op c.args.f c.args.g c.parts-f_low.ensures c.parts-g_low.ensures x.extends c.in_ok-low.low x.builds y.extends c.in_ok-high.high y.builds (min (top_of d c.args.f) (top_of d c.args.g)) v c.node.result d₃.len d₃.rows.now c.node.ensures.builds
