@@ -25,6 +25,7 @@ fn settled(op: Operation, f: usize, g: usize) -> Option<usize>
     }
 }
 
+// An operation and two handles come as the interface's `join` gets them.
 impl Diagram<'_> {
     // Yields the join of two held functions, going down both diagrams by their first variable.
     pub(crate) fn join_down(

@@ -6,6 +6,7 @@ ghost use Rattle.memo.specs.Memos.{Memoized, Started, Released};
 use crate::memo::{Memo, forget};
 use stores::{Call, Operation, Store, StoreFault};
 
+// The `memo` clauses name what the memo had and has, field by field: that is what they promise.
 impl<S: Store> Store for Memo<S> {
     ghost meaning = { λ s. S.Store.meaning s.below };
 

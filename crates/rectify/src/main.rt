@@ -7,7 +7,7 @@ mod rows;
 use report::report;
 use std::{fs, io};
 
-// The bytes of a file. One that is missing counts as empty.
+// The bytes of a file. One that is missing counts as empty, and not as the end of all files as in the program crosscheck.
 fn read_file(rt: &HostRuntime, path: &str) -> io::Result<Vec<u8>> {
     match fs::read(rt, path) {
         Err(error) if error.kind() == io::ErrorKind::NotFound => Ok(Vec::new(rt.alloc())),

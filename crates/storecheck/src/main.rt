@@ -33,7 +33,8 @@ fn print_words(rt: &HostRuntime, places: usize) -> anyhow::Result<()> {
     Ok(())
 }
 
-// A table over rows: the bare store, one memo, and two on top of each other.
+// A table over rows: the bare store, one memo, and two on top of each other. Not one function with the table over words:
+// each compares with other memos.
 fn print_diagram(rt: &HostRuntime, case: usize, places: usize) -> anyhow::Result<()> {
     let heap = rt.alloc();
     let path = format!(in heap; "diagram-{case}.calls")?;

@@ -30,7 +30,8 @@ fn operand(kind: Option<&str>, word: Option<&str>, answers: &[usize]) -> usize {
 }
 
 // What the calls of a table answer, a line for each. A call that yields a function is told by the length of the list and
-// the function's truth table, since the order of what one call gains is the store's own; any other by its answer.
+// the function's truth table, since the order of what one call gains is the store's own; any other by its answer. The
+// program crosscheck writes its numbers and tells its answers in another way.
 pub(crate) fn run_table<S: Store>(
     heap: Global,
     store: &mut S,

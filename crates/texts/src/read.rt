@@ -43,6 +43,7 @@ impl Reader {
 
     /// Reads the netlist and then the specification, and fills the design. The first record that breaks a rule is
     /// refused with the first rule that it breaks, and then the design stays as it was.
+    // The texts stay two parameters: a struct of both would be made at each call only to be taken apart in each clause.
     pub fn read(
         &mut self,
         netlist: &[u8],
