@@ -7,6 +7,7 @@ use stores::{Store, StoreFault, majority};
 impl Request {
     /// Asks a store. What it answers is told as a number: a handle or a length as it is, a bit as 0 or 1, and 0 where the
     /// store answers nothing.
+    // One number for all: it is what a table holds and a program prints.
     pub fn run<S: Store>(self, store: &mut S) -> Result<usize, StoreFault>
         ensures { Ran S.keeping (S.meaning store.old) self result (S.meaning store.new) }
     {

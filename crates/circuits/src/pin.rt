@@ -8,6 +8,7 @@ use crate::short::Blank;
 pub struct Pin {
     /// The number of the stem: inputs first, then gates.
     pub stem: usize,
+    // No `Option` of a stem: both are always there.
     pub mark: bool,
 }
 

@@ -5,7 +5,7 @@
 mod examples;
 mod tables;
 
-use anyhow::anyhow;
+use anyhow::Context;
 use circuits::{Counts, Design};
 use std::alloc::{AllocError, Global};
 use std::{fs, io};
@@ -37,9 +37,7 @@ fn print_lines(rt: &HostRuntime, design: &Design) -> anyhow::Result<()> {
         let Some(place) = design.place(line) else {
             break;
         };
-        let Some(number) = design.line(place) else {
-            return Err(anyhow!("a place without a line"));
-        };
+        let number = design.line(place).context("a place without a line")?;
         let bits = bits(rt.alloc(), |assignment| design.carry(line, assignment))?;
         println!(rt; "line,{number},{bits}")?;
     }
@@ -116,9 +114,7 @@ fn print_texts(rt: &HostRuntime) -> anyhow::Result<()> {
 fn print_calls(rt: &HostRuntime) -> anyhow::Result<()> {
     for places in [0, 1, 2, 5, 12, 4096] {
         let path = format!(in rt.alloc(); "{places}.calls")?;
-        let Ok(table) = fs::read_to_string(rt, path.as_str()) else {
-            return Err(anyhow!("a table is missing"));
-        };
+        let table = fs::read_to_string(rt, path.as_str()).context("a table is missing")?;
         println!(rt; "words,{places}")?;
         tables::run_table(rt, places, table.as_str())?;
     }

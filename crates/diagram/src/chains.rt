@@ -51,7 +51,8 @@ impl Diagram<'_> {
         requires { to ≤ self.old.len }
         ensures { Cut self.old to self.new }
     {
-        // From the newest row down, so that the heads are right for the rows that are left at each turn.
+        // By places from the newest row down: over the rows themselves the length could not follow at each turn, and the
+        // store's fact would not hold there.
         for k in (to..self.len).rev() {
             let row = self.rows[k];
             self.heads[chain_of(row.node)] = row.next;

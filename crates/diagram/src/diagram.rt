@@ -49,7 +49,8 @@ impl<'a> Diagram<'a> {
         }
     }
 
-    // The variable of a handle's row, or the number after all variables where it is a constant's.
+    // The variable of a handle's row, or the number after all variables where it is a constant's: it is compared with
+    // variables. A method that goes by a handle asks that it is held, since handles are plain numbers.
     pub(crate) fn top(&self, h: usize) -> usize
         requires { Held self.now h }
         ensures { result ≡ top_of self.now h }
@@ -105,7 +106,7 @@ impl<'a> Diagram<'a> {
         Ok(self.len + 1)
     }
 
-    // The bit of a handle's function at a point, going down the diagram.
+    // The bit of a handle's function at a point, going down the diagram by handles.
     pub(crate) fn bit(&self, f: usize, p: usize) -> bool
         requires { Held self.now f }
         ensures { result ≡ function_of self.now f p }

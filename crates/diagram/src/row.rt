@@ -10,6 +10,7 @@ pub(crate) struct Node {
 
 /// A row of a diagram: the node of the row's function. A row also has the link of its chain, for the search for equal
 /// rows.
+// Rows name rows by handles, and no boxes: their memory is lent, and a store takes none of its own.
 #[derive(Clone, Copy, Debug, PartialEq, Eq)]
 pub struct Row {
     pub(crate) node: Node,

@@ -8,6 +8,7 @@ use std::alloc::{AllocError, Global};
 use texts::Reader;
 
 /// The report: the row of the design that the two texts write, or the row of the fault.
+// two texts, as in `Reader::read`
 pub fn report(heap: Global, netlist: &[u8], specification: &[u8]) -> Result<String, AllocError>
     ensures { IfOk result (λ s. Reported netlist.now specification.now (string_bytes s)) }
 {

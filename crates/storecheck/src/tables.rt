@@ -3,7 +3,7 @@ use calls::Request;
 use std::alloc::Global;
 use stores::Store;
 
-// A number that tells a held function's truth table, point by point.
+// A number that tells a held function's truth table, point by point: a bit is a digit of it, and assignments are numbers.
 fn digest<S: Store>(store: &S, h: usize, inputs: usize) -> u64 {
     let mut digest = 7u64;
     for e in [false, true] {

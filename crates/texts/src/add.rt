@@ -67,7 +67,7 @@ pub(crate) fn add_gate(draft: &mut Draft, name: Name, kind: Kind, pins: &[u8]) -
     Ok(())
 }
 
-// Adds an output that reads the stem of this name.
+// Adds an output that reads the stem of this name, through an inversion where it is marked: both are always there.
 pub(crate) fn add_output(
     draft: &mut Draft,
     name: Name,

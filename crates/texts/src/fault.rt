@@ -34,6 +34,7 @@ pub enum Cause {
 }
 
 /// A record that is refused. Where the whole text is too long, record, place and length are 0.
+// No `Option` of the three: 0 is what the rules say of them there, and what is printed.
 #[derive(Clone, Copy, Debug, PartialEq, Eq)]
 pub struct TextFault {
     pub cause: Cause,
@@ -47,7 +48,7 @@ pub struct TextFault {
 }
 
 /// Why reading is refused.
-// One variant today: `?` turns a text's fault into it, and other reasons can stand beside it.
+// A rule of the project: a reading has an enum of reasons of its own, into which `?` turns a text's fault.
 #[derive(Clone, Copy, Debug, PartialEq, Eq)]
 pub enum ReadFault {
     Text(TextFault),
@@ -86,6 +87,7 @@ impl Cause {
 
 impl TextFault {
     /// The number of the cause.
+    // as above
     pub fn number(self) -> usize
         ensures { result ≡ fault_number self }
     {
@@ -95,6 +97,7 @@ impl TextFault {
 
 impl ReadFault {
     /// The number of the refusal.
+    // as above
     pub fn number(self) -> usize
         ensures { result ≡ read_number self }
     {
@@ -106,6 +109,7 @@ impl ReadFault {
     }
 }
 
+// No derive of the toolchain says what `from` gives.
 impl From<TextFault> for ReadFault {
     ghost from_gives = { λ x y. y ≡ of_text x };
 
@@ -114,6 +118,7 @@ impl From<TextFault> for ReadFault {
     }
 }
 
+// A record has two causes more than a part, and a caller matches one enum.
 impl From<PartFault> for Cause {
     ghost from_gives = { λ x y. y ≡ cause_of x };
 

@@ -13,7 +13,7 @@ use crate::records::Records;
 use crate::shape::{Shaped, netlist_shape};
 use circuits::Draft;
 
-// What the record declares.
+// What the record declares. No `From`: this is its only use, and a name says more here.
 fn kind_of_record(shaped: &Shaped) -> RecordKind
     ensures { result ≡ shaped_kind shaped.now }
 {
@@ -24,7 +24,8 @@ fn kind_of_record(shaped: &Shaped) -> RecordKind
     }
 }
 
-// Takes one record, without its line feed, and tells the group that is reached with it.
+// Takes one record, without its line feed, and tells the group that is reached with it. It asks for what is reached as
+// `add_input` does.
 fn take_record(draft: &mut Draft, group: Group, record: &[u8]) -> Result<Group, Cause>
     requires { Reached group draft.old }
     ensures exact { Taken draft.old group «record».now result draft.new }

@@ -19,6 +19,7 @@ pub(crate) enum Shaped<'a> {
     },
     Output {
         name: Name,
+        // beside the stem, as in a pin
         mark: bool,
         stem: Name,
     },

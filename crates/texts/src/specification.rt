@@ -17,7 +17,8 @@ fn take_row(draft: &mut Draft, record: &[u8]) -> Result<(), Cause>
     add_row(draft, &output, row.pattern, row.value)
 }
 
-// Reads the specification into a draft that has the circuit.
+// Reads the specification into a draft that has the circuit. What it shares with the reader of a netlist is `Records`;
+// the steps and the ends differ.
 pub(crate) fn read_specification(draft: &mut Draft, specification: &[u8]) -> Result<(), TextFault>
     ensures { MatchResult result (λ _. SpecificationRead specification.now draft.old draft.new) (λ f. SpecificationRefused specification.now draft.old f) }
 {

@@ -7,6 +7,7 @@ use crate::fault::{Text, TextFault};
 impl TextFault {
     /// The record that this fault names, without its line feed, as a part of whichever of the two texts the fault names;
     /// the empty beginning of that text where no such record lies inside it.
+    // two texts, as in `Reader::read`
     pub fn word<'a>(self, netlist: &'a [u8], specification: &'a [u8]) -> &'a [u8]
         ensures { result.now ≡ part_at (text_of netlist.now specification.now self.text) self.place self.length }
     {

@@ -41,7 +41,7 @@ pub(super) fn combined(op: Operation, x: u64, y: u64) -> u64
     }
 }
 
-// The half of a word where e is the bit, written twice.
+// The half of a word where e is the bit, written twice. It asks for words without a bit past the points, as `Words::find`.
 #[tactic(auto, using(crate::proofs::WordBits::half_below))]
 pub(super) fn repeated(inputs: usize, w: u64, bit: bool) -> u64
     requires few { inputs ≤ 5 }
