@@ -18,7 +18,7 @@ grep -rnE --include='*.rt' -A1 'else \{$' crates/*/src | grep -E 'return (Err|No
 grep -rhoE --include='*.rt' 'fn [a-z_]+' crates/*/src | sort | uniq -c | awk '$1 > 1' | show 2 'names of functions that stand twice or more'
 src '^(pub(\(crate\))? )?struct ' | show 2 'structs'
 src 'for [a-z_]+ in .*\.\.|while ' | show 3 'loops over a range, and while loops'
-src '^impl.* (PartialEq|Eq|PartialOrd|Ord|Clone|Copy|Hash|Default|Debug|Display|From<.*>|TryFrom<.*>) for ' | show 4 'impls of comparing, copying, converting and printing'
+src '^impl.* (PartialEq|Eq|PartialOrd|Ord|Clone|Copy|Hash|Default|Debug|([a-z]+::)?Display|From<.*>|TryFrom<.*>) for ' | show 4 'impls of comparing, copying, converting and printing'
 src '== [a-z_.]+ && .* == |fn is\(|fn [a-z]+_of\(.*Option<|_letter\(.*->|Operation::[A-Z][a-z]* => Action' | show 4 'comparing, converting and printing by hand'
 grep -rhoE --include='*.rt' 'requires( [a-z]+)? \{ [A-Za-z.]+ ' crates/*/src | sed -E 's/requires( [a-z]+)? //' | sort | uniq -c | awk '$1 > 2' | show 5 'facts that three or more contracts require'
 src 'len: usize|\[[A-Za-z0-9<>]+; [0-9A-Z]+\]' | show 6 'lengths, and tables of fixed size'
