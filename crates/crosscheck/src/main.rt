@@ -72,6 +72,7 @@ fn print_design(rt: &HostRuntime, design: &Design) -> anyhow::Result<()> {
     Ok(())
 }
 
+// A row like that of the program rectify, which this one does not lean on: it tests the libraries alone.
 fn print_fault(rt: &HostRuntime, fault: ReadFault) -> anyhow::Result<()> {
     let ReadFault::Text(
         TextFault {

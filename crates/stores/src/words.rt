@@ -67,7 +67,7 @@ impl<'a> Words<'a> {
         position_of(&self.words[..self.len], w).map(|i| i + 2)
     }
 
-    // Yields a word's function.
+    // Yields a word's function: found, refused, or put behind the others, as `Diagram::node` does by functions of its own.
     fn keep(&mut self, w: u64) -> Result<usize, StoreFault>
         requires fits { w < 2 ^ points self.old.inputs }
         ensures makes { Yields alone (words_meaning self.old) (Unit {0}) (of_word w ∷ []) (of_word w) result (words_meaning self.new) }

@@ -51,7 +51,8 @@ pub(crate) fn add_input(draft: &mut Draft, name: Name) -> Result<(), Cause>
     Ok(())
 }
 
-// Adds a gate whose pins are read from these fields.
+// Adds a gate whose pins are read from these fields. The draft asks for its limit too, but a limit comes before the names
+// of pins, here and below.
 pub(crate) fn add_gate(draft: &mut Draft, name: Name, kind: Kind, pins: &[u8]) -> Result<(), Cause>
     requires { Reached Group.Gates draft.old }
     ensures { Settled (gate_cause draft.old (name_bytes name) kind (fields pins.now)) (GateAdded draft.old name kind (fields pins.now) draft.new) (draft.new ≡ draft.old) result }

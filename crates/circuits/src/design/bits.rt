@@ -73,6 +73,7 @@ impl Design {
     }
 
     /// The bit of an output after its mark at an assignment. None where there is no such output or assignment.
+    // It begins as `carry` does: a function for that would hand out an `Option` of what the next line takes apart.
     pub fn output(&self, output: usize, assignment: usize) -> Option<bool>
         ensures { result ≡ output_at self.now.circuit output assignment }
     {

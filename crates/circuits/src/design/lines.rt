@@ -69,7 +69,7 @@ impl Design {
         }
     }
 
-    // The number of the line at a position of a gate.
+    // The number of the line at a position of a gate. `Place::Pin` is the struct of the two, taken apart by the caller.
     fn pin_line(&self, gate: usize, position: usize) -> Option<usize>
         ensures { result ≡ line_of self.now.circuit (Place.Pin gate position) }
     {

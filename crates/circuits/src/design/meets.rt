@@ -12,7 +12,8 @@ use crate::pin::Pin;
 use crate::row::bound_value;
 
 impl Design {
-    // Whether an output that is read through this pin has its bound value at an assignment.
+    // Whether an output that is read through this pin has its bound value at an assignment. Output and assignment are no
+    // struct, here and where rows are asked: one output is asked at all assignments in turn.
     fn obeys_at(&self, pin: Pin, output: usize, assignment: usize) -> bool
         requires { pin.stem < stem_count self.now.circuit }
         ensures { result ≡ obeys (bound self.now.rows output assignment) (through pin (carried self.now.circuit assignment)) }
