@@ -1,5 +1,6 @@
-use Rattle.std.proofs.Common.{length, sym, ap, rules, arith}
-use Rattle.std.proofs.lemmas.List.{length-take-le}
+use Rattle.std.proofs.Common.{ℕ, List, [], ◌∷◌, ◌++◌, length, get_or, sym, ap, ◌∙◌, rules, arith}
+use Rattle.std.proofs.lemmas.List.{length-take-le, take_more}
+use Rattle.std.proofs.lemmas.Result.{MatchResult-at_ok}
 use Rattle.circuits.proofs.Naming.{name_short}
 use Rattle.circuits.proofs.name.Name.new.Goals as goal
 
@@ -9,3 +10,8 @@ unwrap-requires c =
     let some = ap length c.loop-byte.invariant in
     let so_far = length-take-le c.loop-byte.byte-index c.args.bytes.now (omega arith) in
     search rules
+
+pub loop-byte-preserved : goal.loop-byte-preserved
+loop-byte-preserved c =
+    let pushed = MatchResult-at_ok _ _ c.unwrap.result c.unwrap.ensures c.push.ensures in
+    pushed.1 ∙ (ap (λ (x : List ℕ). x ++ get_or c.args.bytes.now c.loop-byte.byte-index 0 ∷ []) c.loop-byte.invariant ∙ sym (take_more c.args.bytes.now c.loop-byte.byte-index 0 (omega arith)))
