@@ -3,7 +3,7 @@ use Rattle.std.proofs.Common.{◌≡◌, ℕ, zero, suc, ◌+◌, ◌-◌, ◌*�
 use Rattle.std.specs.Option.{option_map}
 use Rattle.std.specs.List.{slice_get}
 use Rattle.std.proofs.lemmas.List.{length-take, drop_more, drop_all}
-use Rattle.std.proofs.lemmas.Option.{slice_get-get_or}
+use Rattle.std.proofs.lemmas.Option.{slice_get-get_or, slice_get_past}
 use Rattle.std.proofs.lemmas.Bool.{ltb-true, lt-ltb, le-ltb, cases_lt, false≢true}
 use Rattle.std.proofs.lemmas.Bool.Decides.{nat_tests}
 use Rattle.circuits.specs.declared.gate.Gate.{Gate}
@@ -170,6 +170,13 @@ pin_count_le (g ∷ gs) = omega (arith, few g.pins, pin_count_le gs)
 -- of the first gates
 pub first_pins_le : (gs : List Gate) (k : ℕ) → pin_count (take k gs) ≤ 4 * length gs
 first_pins_le gs k = omega (arith, pin_count_le (take k gs), length-take k gs)
+
+-- past the last gate there is no pin
+pub pin_at_past : (gs : List Gate) (k i : ℕ) → length gs ≤ k → is_some (pin_at gs k i) ≡ false
+pin_at_past gs k i h = rw (slice_get_past gs k h)
+
+pub no_gate : (gs : List Gate) (k i : ℕ) → length gs ≤ k → pin_at gs k i ≡ None
+no_gate gs k i h = rw (slice_get_past gs k h)
 
 -- a gate has at most four pins
 pub pin_small : (gs : List Gate) (k i : ℕ) (p : Pin) → pin_at gs k i ≡ Some p → i < 4

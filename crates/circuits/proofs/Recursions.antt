@@ -1,25 +1,23 @@
 -- The recursions over lists, in the library's words.
-use Rattle.std.proofs.Common.{◌≡◌, ℕ, zero, take, ◌≤◌, add-one, ◌<◌, get_or, Bool, reverse, suc, ◌+◌, true, false, cond, not, ◌&&◌, ltb, List, [], ◌∷◌, ◌++◌, map, length, Some, None, sym, refl, ap, ◌∙◌, arith}
-use Rattle.std.specs.Prelude.{filter, find, zip, position as first_place}
+use Rattle.std.proofs.Common.{◌≡◌, ℕ, zero, take, ◌≤◌, add-one, ◌<◌, get_or, Bool, suc, ◌+◌, ◌-◌, true, false, cond, not, ◌&&◌, ◌⊎◌, ltb, List, [], ◌∷◌, ◌++◌, map, length, Some, None, sym, refl, ap, ◌∙◌, inl, inr, arith}
+use Rattle.std.specs.Prelude.{find, zip, position as first_place}
 use Rattle.std.specs.List.{sum_by, range_with_len, enumerate_from, list_all, position_or_len}
 use Rattle.std.specs.Str.{bytes_eq}
 use Rattle.std.proofs.lemmas.Bool.{lt-ltb}
 use Rattle.std.proofs.lemmas.Bool.Decides.{nat_tests}
-use Rattle.std.proofs.lemmas.List.{take_all, map-append, length-reverse, reverse-append}
+use Rattle.std.proofs.lemmas.List.{take_all, map-append}
 use Rattle.std.proofs.lemmas.List.FromFn.{length-range_with_len, get_or-range_with_len, length-enumerate_from, get_or-enumerate_from}
-use Rattle.std.proofs.lemmas.List.Folds.{list_all-append, list_all_more}
+use Rattle.std.proofs.lemmas.List.Folds.{list_all_more}
 use Rattle.std.proofs.lemmas.List.Recursion.{is_sum_by}
 use Rattle.circuits.specs.Lines.{pin_count}
 use Rattle.circuits.specs.Circuits.{pins_of}
 use Rattle.circuits.specs.Specification.{each_below}
-use Rattle.circuits.specs.declared.pin.Pin.{Pin}
-use Rattle.circuits.specs.Kinds.{ones}
 use Rattle.std.proofs.lemmas.Simd.{map-map}
 use Rattle.std.specs.Option.{option_map}
 use Rattle.circuits.specs.declared.literal.Literal.{Literal}
 use Rattle.circuits.specs.declared.row.SpecRow.{SpecRow}
 use Rattle.circuits.specs.declared.gate.Gate.{Gate}
-use Rattle.circuits.specs.Circuits.{Net, name_bytes, bit, nothing, received, through}
+use Rattle.circuits.specs.Circuits.{Net, name_bytes, bit}
 use Rattle.circuits.specs.Legality.{position, stem_names}
 use Rattle.circuits.specs.Specification.{covers, matches, overlap, meet, binds, bound}
 
@@ -29,6 +27,24 @@ meet_all [] [] = refl
 meet_all [] (m ∷ ms) = refl
 meet_all (l ∷ ls) [] = refl
 meet_all (l ∷ ls) (m ∷ ms) = ap (λ b. overlap l m && b) (meet_all ls ms)
+
+first_done : (ls ms : List Literal) → length ls ≡ 0 → meet ls ms ≡ true
+unfolding meet
+first_done [] [] e = refl
+first_done [] (m ∷ ms) e = refl
+first_done (l ∷ ls) ms e = let z : ⊥ = omega arith in absurd z
+
+second_done : (ls ms : List Literal) → length ms ≡ 0 → meet ls ms ≡ true
+unfolding meet
+second_done [] [] e = refl
+second_done (l ∷ ls) [] e = refl
+second_done ls (m ∷ ms) e = let z : ⊥ = omega arith in absurd z
+
+-- Nothing is left to compare once either pattern has no literal left.
+pub meet_done :
+    {X Y : Type 0} (ls ms : List Literal) (P : X → Type 0) (Q : Y → Type 0) → ((x : X) × ((length ls ≡ 0) × P x)) ⊎ ((y : Y) × ((length ms ≡ 0) × Q y)) → meet ls ms ≡ true
+meet_done ls ms P Q (inl w) = first_done ls ms w.1.0
+meet_done ls ms P Q (inr w) = second_done ls ms w.1.0
 
 pub bound_find : (rs : List SpecRow) (k a : ℕ) → bound rs k a ≡ option_map (λ (r : SpecRow). r.value) (find (λ r. binds r k a) rs)
 unfolding bound
@@ -61,42 +77,23 @@ pub stem_names_joined : (c : Net) → stem_names c ≡ map name_bytes (c.inputs 
 stem_names_joined c =
     sym (map-append name_bytes c.inputs (map (λ (g : Gate). g.name) c.gates) ∙ ap (λ l. map name_bytes c.inputs ++ l) (map-map name_bytes (λ (g : Gate). g.name) c.gates))
 
-enumerate_push : {X : Type 0} (n : ℕ) (xs : List X) (y : X) → enumerate_from n (xs ++ y ∷ []) ≡ enumerate_from n xs ++ (n + length xs, y) ∷ []
-enumerate_push n [] y = ap (λ k. (k, y) ∷ []) (omega arith)
-enumerate_push n (x ∷ xs) y = ap (λ l. (n, x) ∷ l) (enumerate_push (n + 1) xs y ∙ ap (λ k. enumerate_from (n + 1) xs ++ (k, y) ∷ []) (omega arith))
-
-and_last : (x y : Bool) → (x && y) ≡ (y && (x && true))
-and_last true true = refl
-and_last true false = refl
-and_last false true = refl
-and_last false false = refl
-
--- the literals from the last on, each with its bit
-pub covers_all : (ls : List Literal) (a : ℕ) → covers ls a ≡ list_all (λ (p : ℕ × Literal). matches p.1 (bit a p.0)) (enumerate_from 0 (reverse ls))
+-- the literals, each with its number, which is counted from k
+covers_from : (ls : List Literal) (a k n : ℕ) → n ≡ k + length ls → covers ls a ≡ list_all (λ (p : ℕ × Literal). matches p.1 (bit a (n - 1 - p.0))) (enumerate_from k ls)
 unfolding covers
-covers_all [] a = refl
-covers_all (l ∷ ls) a =
-    let t = λ (p : ℕ × Literal). matches p.1 (bit a p.0) in
-    let n : 0 + length (reverse ls) ≡ length ls = omega (arith, length-reverse ls) in
-    let turned : reverse (l ∷ ls) ≡ reverse ls ++ l ∷ [] = reverse-append (l ∷ []) ls in
-    rw (turned, enumerate_push 0 (reverse ls) l, list_all-append t (enumerate_from 0 (reverse ls)) ((0 + length (reverse ls), l) ∷ []), n, ← covers_all ls a)
-    (and_last (matches l (bit a (length ls))) (covers ls a))
+covers_from [] a k n e = refl
+covers_from (l ∷ ls) a k n e =
+    let at : n - 1 - k ≡ length ls = omega arith in
+    rw (at, covers_from ls a (k + 1) n (omega arith)) refl
 
--- a literal's place is below their number
-pub place_below : {X : Type 0} (xs : List X) (k : ℕ) (p : ℕ × X) → k < length (enumerate_from 0 (reverse xs)) → p ≡ get_or (enumerate_from 0 (reverse xs)) k p → p.0 < length xs
-place_below {X = X} xs k p h e =
-    let n : length (enumerate_from 0 (reverse xs)) ≡ length xs = length-enumerate_from 0 (reverse xs) ∙ length-reverse xs in
-    let at = e ∙ get_or-enumerate_from 0 (reverse xs) k p (omega (arith, length-enumerate_from 0 (reverse xs))) in
-    omega (arith, ap (λ (q : ℕ × X). q.0) at)
+-- the literals, each with its bit
+pub covers_all : (ls : List Literal) (a : ℕ) → covers ls a ≡ list_all (λ (p : ℕ × Literal). matches p.1 (bit a (length ls - 1 - p.0))) (enumerate_from 0 ls)
+covers_all ls a = covers_from ls a 0 (length ls) (omega arith)
 
--- how many pins get 1
-pub ones_received : (g i : ℕ) (stems : List Bool) (ps : List Pin) → ones (received nothing g i stems ps) ≡ length (filter (λ (p : Pin). through p stems) ps)
-unfolding ones received
-ones_received g i stems [] = refl
-ones_received g i stems (p ∷ ps) =
-    let later = ones_received g (suc i) stems ps in
-    elim (through p stems) as (λ b. cond b 1 0 + ones (received nothing g (suc i) stems ps) ≡ length (cond b (p ∷ filter (λ (p : Pin). through p stems) ps) (filter (λ (p : Pin). through p stems) ps)))
-    [ true ↦ omega arith | false ↦ omega arith ]
+-- a literal's number is below how many there are
+pub number_below : {X : Type 0} (xs : List X) (k : ℕ) (p : ℕ × X) → k < length (enumerate_from 0 xs) → p ≡ get_or (enumerate_from 0 xs) k p → p.0 < length xs
+number_below {X = X} xs k p h e =
+    let at = e ∙ get_or-enumerate_from 0 xs k p (omega (arith, length-enumerate_from 0 xs)) in
+    omega (arith, length-enumerate_from 0 xs, ap (λ (q : ℕ × X). q.0) at)
 
 pub pin_count_sum : (gs : List Gate) → pin_count gs ≡ sum_by (λ g. length (pins_of g)) gs
 unfolding pin_count

@@ -1,16 +1,17 @@
 -- Working out a circuit gate by gate, with nothing put into it.
-use Rattle.std.proofs.Common.{◌≡◌, ℕ, zero, suc, ◌+◌, ◌-◌, ◌<◌, ◌≤◌, Bool, true, ltb, List, [], ◌∷◌, ◌++◌, map, length, get_or, drop, Some, sym, refl, ap, ◌∙◌, add-one, arith}
+use Rattle.std.proofs.Common.{◌≡◌, ℕ, zero, suc, ◌+◌, ◌-◌, ◌<◌, ◌≤◌, Bool, true, cond, ltb, List, [], ◌∷◌, ◌++◌, map, length, get_or, drop, Some, sym, refl, ap, ◌∙◌, add-one, arith}
 use Rattle.std.proofs.lemmas.List.{drop_more, drop_all, length-drop, length_push, append_assoc, append-nil}
 use Rattle.std.proofs.lemmas.Bool.{and_parts, ltb-true}
 use Rattle.circuits.specs.declared.gate.Gate.{Gate}
 use Rattle.circuits.specs.declared.gate.Output.{Output}
 use Rattle.circuits.specs.declared.name.Name.{Name}
 use Rattle.circuits.specs.declared.pin.Pin.{Pin}
-use Rattle.circuits.specs.Kinds.{fits, gate_bit}
+use Rattle.circuits.specs.Kinds.{fits, gate_bit, ones}
 use Rattle.circuits.specs.Circuits.{Net, pins_of, Put, nothing, gate_stem, bit, through, received, input_stems, worked_out, stems_with, carried}
 use Rattle.circuits.specs.Legality.{pins_read, gate_legal, gates_legal, outputs_legal}
 use Rattle.circuits.specs.Lines.{stem_count, pin_at}
-use Rattle.std.specs.List.{slice_get}
+use Rattle.std.specs.List.{slice_get, sum_by}
+use Rattle.std.proofs.lemmas.List.Recursion.{is_sum_by}
 use Rattle.std.specs.Option.{IfSome, option_map}
 use Rattle.std.proofs.lemmas.Option.{IfSome_then, slice_get-get_or}
 
@@ -19,6 +20,12 @@ pub received_each : (g i : ℕ) (stems : List Bool) (ps : List Pin) → received
 unfolding received
 received_each g i stems [] = refl
 received_each g i stems (p ∷ ps) = ap (λ bs. through p stems ∷ bs) (received_each g (suc i) stems ps)
+
+-- how many pins get 1, as a sum over the pins
+pub ones_received : (g i : ℕ) (stems : List Bool) (ps : List Pin) → ones (received nothing g i stems ps) ≡ sum_by (λ (p : Pin). cond (through p stems) 1 0) ps
+unfolding ones
+ones_received g i stems ps =
+    ap ones (received_each g i stems ps) ∙ is_sum_by (λ qs. ones (map (λ (p : Pin). through p stems) qs)) (λ (p : Pin). cond (through p stems) 1 0) refl (λ _ _. refl) ps
 
 -- a pin reads an earlier stem
 pub pin_reads : (s : ℕ) (ps : List Pin) (i : ℕ) (d : Pin) → pins_read s ps ≡ true → i < length ps → (get_or ps i d).stem < s

@@ -14,8 +14,11 @@ pub(crate) fn run_table(rt: &HostRuntime, places: usize, table: &str) -> anyhow:
             // the number that the word writes, or 0
             *number = fields.next().unwrap_or("").parse::<usize>().unwrap_or(0);
         }
-        // any other word asks for the length
-        let request = Request::named(name, numbers).unwrap_or(Request::Length);
+        // Any other word asks for the length; so does a majority, which these tables do not have.
+        let request = match Request::named(name, numbers) {
+            None | Some(Request::Majority(..)) => Request::Length,
+            Some(request) => request,
+        };
         match request.run(&mut store) {
             Ok(answer) => println!(rt; "{answer}")?,
             Err(fault) => {

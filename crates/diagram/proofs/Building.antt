@@ -1,5 +1,5 @@
 -- What a sound diagram store holds, and how it comes to hold a node.
-use Rattle.std.proofs.Common.{◌≡◌, ℕ, zero, suc, ◌+◌, ◌-◌, ◌<◌, ◌≤◌, true, false, List, [], ◌∷◌, ◌++◌, length, replicate, get_or, set, length-set, Some, None, Option, Ok, sym, refl, ap, ◌∙◌, subst, inl, inr, arith}
+use Rattle.std.proofs.Common.{◌≡◌, ℕ, zero, suc, ◌+◌, ◌-◌, ◌<◌, ◌≤◌, true, false, List, [], ◌∷◌, ◌++◌, length, replicate, get_or, set, length-set, Some, None, Ok, sym, refl, ap, ◌∙◌, subst, inl, inr, arith}
 use lib.ListN.{length-replicate}
 use lib.Seq.{get_or_at}
 use Rattle.std.proofs.lemmas.List.{get_or-replicate}
@@ -8,9 +8,10 @@ use Rattle.stores.specs.Functions.{Function, never, Same}
 use Rattle.stores.specs.Meaning.{Good, Lawful, Gained, Overfull, at, has}
 use Rattle.stores.proofs.Sames.{Same_sym}
 use Rattle.stores.proofs.Laws.{held_already, gained_new, overfull_new}
+use Rattle.diagram.specs.declared.link.Link.{Link}
 use Rattle.diagram.specs.declared.row.Node.{Node}
 use Rattle.diagram.specs.declared.row.Row.{Row}
-use Rattle.diagram.specs.Chains.{row, chain, newest, Chained, Placed, LinkedOf}
+use Rattle.diagram.specs.Chains.{no_link, handle_of, row, chain, newest, Chained, Placed, LinkedOf}
 use Rattle.diagram.specs.Rows.{node, functions, top, Ordered, SoundOf}
 use Rattle.diagram.specs.Subfunctions.{subfunctions}
 use Rattle.diagram.specs.Diagrams.{meaning_of, LaterOf, ExtendsOf, AppendedOf, BuildsOf}
@@ -20,7 +21,7 @@ use Rattle.diagram.proofs.Subfunctions.{keeps}
 use Rattle.diagram.proofs.Rows.{row_function, functions_kept, functions_length, functions_more, functions_none, functions_grown, at_row, top_kept}
 use Rattle.diagram.proofs.Canonical.{functions_differ, canonical, new_function, kept_held, fewer_reduced}
 
-module _ {n len : ℕ} {rows : List Row} {heads : List (Option ℕ)} (s : SoundOf n len rows heads) where
+module _ {n len : ℕ} {rows : List Row} {heads : List Link} (s : SoundOf n len rows heads) where
   unfoldable pub good : Good (meaning_of n len rows)
   good =
       let (rest, e) = functions_grown n rows 0 len (omega arith) in
@@ -121,7 +122,7 @@ module _ {n len : ℕ} {rows : List Row} {heads : List (Option ℕ)} (s : SoundO
                   none j (omega arith) (p' ∙ q)
             ]
 
-        pub sound_more : (heads' : List (Option ℕ)) → LinkedOf (len + 1) rows' heads' → SoundOf n (len + 1) rows' heads'
+        pub sound_more : (heads' : List Link) → LinkedOf (len + 1) rows' heads' → SoundOf n (len + 1) rows' heads'
         sound_more heads' linked = record { few = s.few; reduced = record { ordered = ordered_more; once = once_more }; linked = linked }
 
         pub extends_more : ExtendsOf n len rows n (len + 1) rows'
@@ -166,10 +167,10 @@ module _ {n len : ℕ} {rows : List Row} {heads : List (Option ℕ)} (s : SoundO
       -- the new row at the head of its chain b
       module _ (room : len < length rows) {b : ℕ} (e : b ≡ chain made) (few : b < 1024) where
         abbrev new_row : Row
-        new_row = record { node = made; next = get_or heads b None }
+        new_row = record { node = made; next = get_or heads b no_link }
 
-        linked : new_row.next ≡ get_or heads (chain made) None
-        linked = ap (λ x. get_or heads x None) e
+        linked : new_row.next ≡ get_or heads (chain made) no_link
+        linked = ap (λ x. get_or heads x no_link) e
 
         in_chain : chain made < 1024
         in_chain = subst (λ x. x < 1024) e few
@@ -185,17 +186,17 @@ module _ {n len : ℕ} {rows : List Row} {heads : List (Option ℕ)} (s : SoundO
               row_new = ap (λ x. x.node) here;
             }
 
-        pub row_sound : SoundOf n (len + 1) (set rows len new_row) (set heads b (Some (len + 2)))
-        row_sound =
+        pub row_sound : (l : Link) → handle_of l ≡ Some (len + 2) → SoundOf n (len + 1) (set rows len new_row) (set heads b l)
+        row_sound l leads =
             let size = length-set rows len new_row in
-            sound_more row_appended (set heads b (Some (len + 2))) (record {
+            sound_more row_appended (set heads b l) (record {
               within = omega arith;
               bounded = omega (arith, s.linked.bounded);
-              chained = subst (λ x. Chained (len + 1) (set rows len new_row) (set heads x (Some (len + 2)))) (sym e) (chained_more new_row s.linked.chained room linked in_chain);
+              chained = subst (λ x. Chained (len + 1) (set rows len new_row) (set heads x l)) (sym e) (chained_more new_row s.linked.chained room linked in_chain l leads);
             })
 
 -- a store without its newest row, which was taken off the head of its chain b
-pub less_sound : {n len b : ℕ} {rows : List Row} {heads : List (Option ℕ)} → SoundOf n len rows heads → 0 < len → b ≡ chain (row rows (len - 1)).node → b < 1024 → SoundOf n (len - 1) rows (set heads b (row rows (len - 1)).next)
+pub less_sound : {n len b : ℕ} {rows : List Row} {heads : List Link} → SoundOf n len rows heads → 0 < len → b ≡ chain (row rows (len - 1)).node → b < 1024 → SoundOf n (len - 1) rows (set heads b (row rows (len - 1)).next)
 less_sound {n} {len} {b} {rows} {heads} s some e few =
     let k = len - 1 in
     let z : len ≡ suc k = omega arith in
@@ -210,7 +211,7 @@ less_sound {n} {len} {b} {rows} {heads} s some e few =
     }
 
 -- a store before its first start, or after a start
-pub new_sound : (n : ℕ) (rows : List Row) → n ≤ 12 → length rows ≤ 4096 → SoundOf n 0 rows (replicate 1024 None)
+pub new_sound : (n : ℕ) (rows : List Row) → n ≤ 12 → length rows ≤ 4096 → SoundOf n 0 rows (replicate 1024 no_link)
 unfolding newest
 new_sound n rows few bounded = record {
   few = few;
@@ -218,6 +219,6 @@ new_sound n rows few bounded = record {
   linked = record {
     within = omega arith;
     bounded = bounded;
-    chained = record { many = length-replicate {A = Option ℕ} 1024 None; starts = λ b l. get_or-replicate 1024 b None None l; links = λ k l. let z : ⊥ = omega arith in absurd z };
+    chained = record { many = length-replicate {A = Link} 1024 no_link; starts = λ b l. ap handle_of (get_or-replicate 1024 b no_link no_link l); links = λ k l. let z : ⊥ = omega arith in absurd z };
   };
 }

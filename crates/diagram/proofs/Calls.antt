@@ -1,5 +1,5 @@
 -- What the calls of a diagram store answer and leave.
-use Rattle.std.proofs.Common.{◌≡◌, ℕ, zero, suc, ◌+◌, ◌-◌, ◌*◌, ◌%◌, ◌^◌, ◌<◌, ◌≤◌, Bool, true, false, cond, not, eqb, List, [], ◌∷◌, length, take, Ok, Err, Result, Option, sym, refl, ap, ◌∙◌, subst, zero-add, zero-mul, arith}
+use Rattle.std.proofs.Common.{◌≡◌, ℕ, zero, suc, ◌+◌, ◌-◌, ◌*◌, ◌%◌, ◌^◌, ◌<◌, ◌≤◌, Bool, true, false, cond, not, eqb, List, [], ◌∷◌, length, take, Ok, Err, Result, sym, refl, ap, ◌∙◌, subst, zero-add, zero-mul, arith}
 use native.Mathlib.Nat.{div-eq_of_lt}
 use Rattle.std.specs.Result.{is_err}
 use Rattle.std.proofs.lemmas.Bool.{false≢true}
@@ -10,6 +10,7 @@ use Rattle.stores.specs.Functions.{Function, never, always, Same, bit, variable,
 use Rattle.stores.specs.Meaning.{Meaning, Yields, Takes, Flips, Fixes, at, cut}
 use Rattle.stores.proofs.Sames.{Same_sym}
 use Rattle.stores.proofs.Laws.{yields_as}
+use Rattle.diagram.specs.declared.link.Link.{Link}
 use Rattle.diagram.specs.declared.row.Row.{Row}
 use Rattle.diagram.specs.Chains.{row}
 use Rattle.diagram.specs.Rows.{node, functions, top, SoundOf}
@@ -55,9 +56,12 @@ cut_meaning n len rows m n' len' rows' two top c =
     let e : functions n rows (m - 2) ≡ take m (functions n rows len) = sym (functions_take n rows (m - 2) len (omega arith)) ∙ ap (λ x. take x (functions n rows len)) (sym i) in
     ap (λ x. meaning_of x len' rows') c.inputs_kept ∙ (ap (λ x. meaning_of n x rows') c.len_is ∙ (ap (λ x. meaning_of n (m - 2) x) c.rows_kept ∙ cc e))
 
-module _ {n len : ℕ} {rows : List Row} {heads : List (Option ℕ)} (s : SoundOf n len rows heads) where
-  held : (h : ℕ) → h < len + 2 → h < length (functions n rows len)
+module _ {n len : ℕ} {rows : List Row} {heads : List Link} (s : SoundOf n len rows heads) where
+  pub held : (h : ℕ) → h < len + 2 → h < length (functions n rows len)
   held h l = omega (arith, functions_length n rows len)
+
+  pub not_held : (h : ℕ) → len + 2 ≤ h → h < length (functions n rows len) → ⊥
+  not_held h l m = omega (arith, functions_length n rows len)
 
   pub answers_variable : (v : ℕ) (r : Result ℕ StoreFault) (m' : Meaning) → v ≤ n → Yields subfunctions (meaning_of n len rows) (Unit {0}) (node n v (at (functions n rows len) 0) (at (functions n rows len) 1) ∷ []) (node n v (at (functions n rows len) 0) (at (functions n rows len) 1)) r m' → Takes subfunctions (meaning_of n len rows) v r m'
   answers_variable v r m' l y =

@@ -1,9 +1,10 @@
 -- How chains are followed, lengthened and shortened.
 use Rattle.std.proofs.Common.{◌≡◌, ℕ, zero, suc, ◌+◌, ◌-◌, ◌<◌, ◌≤◌, true, ◌&&◌, eqb, ◌≢◌, ◌⊎◌, List, length, get_or, set, Some, None, Option, sym, refl, ap, ◌∙◌, subst, inl, inr, add-one, arith, length-set, get_or-set_other, get_or-set_same}
 use Rattle.std.proofs.lemmas.Bool.{cases_Bool, cases_lt, cases_eq, eqb-true, eqb-false, eq-eqb, ne_eqb}
+use Rattle.diagram.specs.declared.link.Link.{Link}
 use Rattle.diagram.specs.declared.row.Node.{Node}
 use Rattle.diagram.specs.declared.row.Row.{Row}
-use Rattle.diagram.specs.Chains.{row, chain, newest, Chained, Placed}
+use Rattle.diagram.specs.Chains.{no_link, handle_of, row, chain, newest, Chained, Placed}
 
 -- Rows that agree have the same newest row.
 pub newest_kept : (rows rows' : List Row) (b k : ℕ) → ((j : ℕ) → j < k → row rows' j ≡ row rows j) → newest rows' b k ≡ newest rows b k
@@ -60,7 +61,7 @@ pub record Walk (len : ℕ) (rows : List Row) (m : Node) (link : Option ℕ) : T
 
 module _ {len : ℕ} {rows : List Row} {m : Node} where
   -- where a walk is, unless it has ended
-  walk_at : {link : Option ℕ} {h : ℕ} (w : Walk len rows m link) → link ≡ Some h → (j : ℕ) × (j < w.upto) × (h ≡ j + 2) × (chain (row rows j).node ≡ chain m)
+  pub walk_at : {link : Option ℕ} {h : ℕ} (w : Walk len rows m link) → link ≡ Some h → (j : ℕ) × (j < w.upto) × (h ≡ j + 2) × (chain (row rows j).node ≡ chain m)
   walk_at {link} {h} w i =
       elim (newest_is rows (chain m) w.upto) [
         | inl z ↦ let e : Some h ≡ None = sym i ∙ (w.here ∙ z) in absurd (let bad : ⊥ = cc in bad)
@@ -82,7 +83,7 @@ module _ {len : ℕ} {rows : List Row} {m : Node} where
       (h - 2, omega arith, omega arith, p)
 
   -- one link on
-  pub walk_on : {heads : List (Option ℕ)} {link : Option ℕ} {h : ℕ} → Chained len rows heads → Walk len rows m link → link ≡ Some h → ((row rows (h - 2)).node ≡ m → ⊥) → Walk len rows m (row rows (h - 2)).next
+  pub walk_on : {heads : List Link} {link : Option ℕ} {h : ℕ} → Chained len rows heads → Walk len rows m link → link ≡ Some h → ((row rows (h - 2)).node ≡ m → ⊥) → Walk len rows m (handle_of (row rows (h - 2)).next)
   walk_on {heads} {link} {h} ch w g other =
       let (j, l, e, c) = walk_at w g in
       let b = w.within in
@@ -100,7 +101,7 @@ module _ {len : ℕ} {rows : List Row} {m : Node} where
         ];
       }
 
-  pub walk_falls : {heads : List (Option ℕ)} {link : Option ℕ} {h : ℕ} → Chained len rows heads → Walk len rows m link → link ≡ Some h → reach (row rows (h - 2)).next < reach link
+  pub walk_falls : {heads : List Link} {link : Option ℕ} {h : ℕ} → Chained len rows heads → Walk len rows m link → link ≡ Some h → reach (handle_of (row rows (h - 2)).next) < reach link
   walk_falls {heads} {link} {h} ch w g =
       let (j, l, e, c) = walk_at w g in
       let b = w.within in
@@ -108,9 +109,9 @@ module _ {len : ℕ} {rows : List Row} {m : Node} where
       let k = ch.links j (omega arith) in
       let r : reach link ≡ h = ap reach g in
       rw i (elim (newest_is rows (chain (row rows j).node) j) [
-        | inl z ↦ let n : reach (row rows j).next ≡ 0 = ap reach (k ∙ z) in omega arith
+        | inl z ↦ let n : reach (handle_of (row rows j).next) ≡ 0 = ap reach (k ∙ z) in omega arith
         | inr y ↦ let (x, l', d, f) = y in
-            let n : reach (row rows j).next ≡ x + 2 = ap reach (k ∙ d) in
+            let n : reach (handle_of (row rows j).next) ≡ x + 2 = ap reach (k ∙ d) in
             omega arith
       ])
 
@@ -122,36 +123,36 @@ module _ {len : ℕ} {rows : List Row} {m : Node} where
       ]
 
 -- a row behind the others, at the head of its chain
-module _ {len : ℕ} {rows : List Row} {heads : List (Option ℕ)} (r : Row) (c : Chained len rows heads) (room : len < length rows) (linked : r.next ≡ get_or heads (chain r.node) None) (few : chain r.node < 1024) where
+module _ {len : ℕ} {rows : List Row} {heads : List Link} (r : Row) (c : Chained len rows heads) (room : len < length rows) (linked : r.next ≡ get_or heads (chain r.node) no_link) (few : chain r.node < 1024) where
   pub set_before : (k : ℕ) → k < len → row (set rows len r) k ≡ row rows k
   set_before k l = let ne : k ≢ len = omega arith in rw get_or-set_other
 
   pub set_here : row (set rows len r) len ≡ r
   set_here = rw get_or-set_same
 
-  starts_more : (b : ℕ) → b < 1024 → get_or (set heads (chain r.node) (Some (len + 2))) b None ≡ newest (set rows len r) b (suc len)
-  starts_more b l =
+  starts_more : (l : Link) → handle_of l ≡ Some (len + 2) → (b : ℕ) → b < 1024 → handle_of (get_or (set heads (chain r.node) l) b no_link) ≡ newest (set rows len r) b (suc len)
+  starts_more l leads b below =
       elim (cases_eq b (chain r.node)) [
         | inl same ↦ let m = c.many in
             let fit : chain r.node < length heads = omega arith in
-            rw (same, get_or-set_same) (sym (subst (λ x. newest (set rows len r) (chain x.node) (suc len) ≡ Some (len + 2)) set_here (newest_here (set rows len r) len)))
+            rw (same, get_or-set_same) (leads ∙ sym (subst (λ x. newest (set rows len r) (chain x.node) (suc len) ≡ Some (len + 2)) set_here (newest_here (set rows len r) len)))
         | inr apart ↦ let ne : b ≢ chain r.node = apart in
-            rw get_or-set_other (c.starts b l ∙ (sym (newest_kept rows (set rows len r) b len set_before) ∙ sym (newest_there (set rows len r) b len (λ e. apart (sym e ∙ ap (λ x. chain x.node) set_here)))))
+            rw get_or-set_other (c.starts b below ∙ (sym (newest_kept rows (set rows len r) b len set_before) ∙ sym (newest_there (set rows len r) b len (λ e. apart (sym e ∙ ap (λ x. chain x.node) set_here)))))
       ]
 
-  links_more : (k : ℕ) → k < suc len → (row (set rows len r) k).next ≡ newest (set rows len r) (chain (row (set rows len r) k).node) k
-  links_more k l =
+  links_more : (k : ℕ) → k < suc len → handle_of (row (set rows len r) k).next ≡ newest (set rows len r) (chain (row (set rows len r) k).node) k
+  links_more k below =
       elim (cases_lt k len) [
         | inl before ↦ rw (set_before k before, newest_kept rows (set rows len r) (chain (row rows k).node) k (λ j m. set_before j (omega arith))) (c.links k before)
         | inr last ↦ let e : k ≡ len = omega arith in
-            rw (e, set_here, newest_kept rows (set rows len r) (chain r.node) len set_before) (linked ∙ c.starts (chain r.node) few)
+            rw (e, set_here, newest_kept rows (set rows len r) (chain r.node) len set_before) (ap handle_of linked ∙ c.starts (chain r.node) few)
       ]
 
-  pub chained_more : Chained (len + 1) (set rows len r) (set heads (chain r.node) (Some (len + 2)))
-  chained_more = rw add-one (record { many = length-set heads (chain r.node) (Some (len + 2)) ∙ c.many; starts = starts_more; links = links_more })
+  pub chained_more : (l : Link) → handle_of l ≡ Some (len + 2) → Chained (len + 1) (set rows len r) (set heads (chain r.node) l)
+  chained_more l leads = rw add-one (record { many = length-set heads (chain r.node) l ∙ c.many; starts = starts_more l leads; links = links_more })
 
 -- the newest row taken off the head of its chain
-pub chained_less : {k : ℕ} {rows : List Row} {heads : List (Option ℕ)} → Chained (suc k) rows heads → chain (row rows k).node < 1024 → Chained k rows (set heads (chain (row rows k).node) (row rows k).next)
+pub chained_less : {k : ℕ} {rows : List Row} {heads : List Link} → Chained (suc k) rows heads → chain (row rows k).node < 1024 → Chained k rows (set heads (chain (row rows k).node) (row rows k).next)
 chained_less {k} {rows} {heads} c few = record {
   many = length-set heads _ _ ∙ c.many;
   links = λ j l. c.links j (omega arith);

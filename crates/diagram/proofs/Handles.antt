@@ -1,14 +1,15 @@
 -- What is left of a handle's function where a variable is 0 and where it is 1.
-use Rattle.std.proofs.Common.{◌≡◌, ℕ, zero, suc, ◌+◌, ◌-◌, ◌<◌, ◌≤◌, List, Option, sym, ap, ◌∙◌, subst, arith}
+use Rattle.std.proofs.Common.{◌≡◌, ℕ, zero, suc, ◌+◌, ◌-◌, ◌<◌, ◌≤◌, List, sym, ap, ◌∙◌, subst, arith}
 use Rattle.stores.specs.Functions.{Same}
 use Rattle.stores.specs.Meaning.{at}
+use Rattle.diagram.specs.declared.link.Link.{Link}
 use Rattle.diagram.specs.declared.row.Row.{Row}
 use Rattle.diagram.specs.Chains.{row}
 use Rattle.diagram.specs.Rows.{node, functions, SoundOf}
 use Rattle.diagram.specs.Diagrams.{LaterOf}
 use Rattle.diagram.proofs.Rows.{at_row}
 
-module _ {n len : ℕ} {rows : List Row} {heads : List (Option ℕ)} (s : SoundOf n len rows heads) where
+module _ {n len : ℕ} {rows : List Row} {heads : List Link} (s : SoundOf n len rows heads) where
   -- a row's handles, where its variable is v
   pub row_parts : (h v : ℕ) → h < len + 2 → 2 ≤ h → v ≤ n → (row rows (h - 2)).node.variable ≡ v → LaterOf n len rows v (row rows (h - 2)).node.low (row rows (h - 2)).node.high × Same n (at (functions n rows len) h) (node n v (at (functions n rows len) (row rows (h - 2)).node.low) (at (functions n rows len) (row rows (h - 2)).node.high))
   row_parts zero v l two known e = let z : ⊥ = omega arith in absurd z

@@ -1,5 +1,5 @@
 -- Joining part by part: what the joins of the parts gain is kept for the join of the whole.
-use Rattle.std.proofs.Common.{◌≡◌, ℕ, zero, suc, ◌+◌, ◌-◌, ◌<◌, ◌≤◌, min, true, false, ◌||◌, ◌⊎◌, List, [], ◌∷◌, ◌++◌, IsErrAnd, Some, Option, Ok, Err, Result, sym, refl, ap, ◌∙◌, subst, inl, inr, arith}
+use Rattle.std.proofs.Common.{◌≡◌, ℕ, zero, suc, ◌+◌, ◌-◌, ◌<◌, ◌≤◌, min, true, false, ◌||◌, ◌⊎◌, List, [], ◌∷◌, ◌++◌, IsErrAnd, Some, Ok, Err, Result, sym, refl, ap, ◌∙◌, subst, inl, inr, arith}
 use Rattle.std.proofs.lemmas.Bool.{both_ways, or_cases, or_left, or_right}
 use Rattle.stores.specs.declared.fault.StoreFault.{StoreFault}
 use Rattle.stores.specs.declared.fault.StoreFault.TheVariants.{Inputs, Places, Bounds}
@@ -8,6 +8,7 @@ use Rattle.stores.specs.Functions.{Function, Same, joined}
 use Rattle.stores.specs.Meaning.{Gained, Stands, at, has, kept}
 use Rattle.stores.proofs.Sames.{Same_sym, Same_trans, has_append, both_same}
 use Rattle.stores.proofs.Laws.{gained_then, gained_as, gained_same, overfull_then, overfull_as, overfull_same, stands_grown}
+use Rattle.diagram.specs.declared.link.Link.{Link}
 use Rattle.diagram.specs.declared.row.Row.{Row}
 use Rattle.diagram.specs.Rows.{node, Free, functions, top, SoundOf}
 use Rattle.diagram.specs.Subfunctions.{subfunctions}
@@ -27,7 +28,7 @@ pub top_stays : {n len : ℕ} {rows : List Row} {n' len' : ℕ} {rows' : List Ro
 top_stays {n} {len} {rows} {n'} {len'} {rows'} e h l = ap (λ x. top x rows' h) e.inputs_kept ∙ top_kept n rows rows' len h e.rows_kept l
 
 -- The exit of a `?` returns the fault that came, whatever variable was asked for.
-builds_exit : (n len : ℕ) (rows : List Row) (f : Function) (v w : ℕ) (r : Result ℕ StoreFault) (len' : ℕ) (rows' : List Row) (e : StoreFault) → IsErrAnd r (λ y. y ≡ e) → BuildsOf n len rows f v (Err e) len' rows' → BuildsOf n len rows f w r len' rows'
+pub builds_exit : (n len : ℕ) (rows : List Row) (f : Function) (v w : ℕ) (r : Result ℕ StoreFault) (len' : ℕ) (rows' : List Row) (e : StoreFault) → IsErrAnd r (λ y. y ≡ e) → BuildsOf n len rows f v (Err e) len' rows' → BuildsOf n len rows f w r len' rows'
 builds_exit n len rows f v w (Ok h) len' rows' e b y = absurd b
 builds_exit n len rows f v w (Err d) len' rows' e b y = subst (λ x. BuildsOf n len rows f w (Err x) len' rows') (sym b) (told e y)
   where
@@ -70,7 +71,7 @@ module _ (n : ℕ) (r : Function) where
       ]
 
 -- one that needs no row
-module _ {n len : ℕ} {rows : List Row} {heads : List (Option ℕ)} (s : SoundOf n len rows heads) (op : Operation) (f g : ℕ) (held_f : f < len + 2) (held_g : g < len + 2) where
+module _ {n len : ℕ} {rows : List Row} {heads : List Link} (s : SoundOf n len rows heads) (op : Operation) (f g : ℕ) (held_f : f < len + 2) (held_g : g < len + 2) where
   settled_held : (h : ℕ) → (h < 2) ⊎ ((h ≡ f) ⊎ (h ≡ g)) → h < len + 2
   settled_held h c = elim c [ inl l ↦ omega arith | inr d ↦ elim d [ inl e ↦ omega arith | inr e ↦ omega arith ] ]
 
@@ -95,7 +96,7 @@ module _ {n len : ℕ} {rows : List Row} {heads : List (Option ℕ)} (s : SoundO
       stays s h (joined op (at F f) (at F g)) (min (top n rows f) (top n rows g)) (settled_held h c) (λ p q. bits (λ i. at F i p) (zeros p) (ones p)) (settled_top h c)
 
 -- one by parts: f is f₀ and f₁, and g is g₀ and g₁, where variable v is 0 and where it is 1
-module _ {n len : ℕ} {rows : List Row} {heads : List (Option ℕ)} (s : SoundOf n len rows heads) (op : Operation) (f g : ℕ) {v f₀ f₁ g₀ g₁ : ℕ} (pf : LaterOf n len rows v f₀ f₁ × Same n (at (functions n rows len) f) (node n v (at (functions n rows len) f₀) (at (functions n rows len) f₁))) (pg : LaterOf n len rows v g₀ g₁ × Same n (at (functions n rows len) g) (node n v (at (functions n rows len) g₀) (at (functions n rows len) g₁))) where
+module _ {n len : ℕ} {rows : List Row} {heads : List Link} (s : SoundOf n len rows heads) (op : Operation) (f g : ℕ) {v f₀ f₁ g₀ g₁ : ℕ} (pf : LaterOf n len rows v f₀ f₁ × Same n (at (functions n rows len) f) (node n v (at (functions n rows len) f₀) (at (functions n rows len) f₁))) (pg : LaterOf n len rows v g₀ g₁ × Same n (at (functions n rows len) g) (node n v (at (functions n rows len) g₀) (at (functions n rows len) g₁))) where
   abbrev whole : Function
   whole = joined op (at (functions n rows len) f) (at (functions n rows len) g)
 
@@ -172,7 +173,7 @@ module _ {n len : ℕ} {rows : List Row} {heads : List (Option ℕ)} (s : SoundO
       node_call : (r : Result ℕ StoreFault) (len₃ : ℕ) (rows₃ : List Row) → BuildsOf n₂ len₂ rows₂ (node n₂ v (at (functions n₂ rows₂ len₂) low) (at (functions n₂ rows₂ len₂) high)) v r len₃ rows₃ → BuildsOf n len₂ rows₂ (node n v (at (functions n rows₂ len₂) low) (at (functions n rows₂ len₂) high)) v r len₃ rows₃
       node_call r len₃ rows₃ b = subst (λ z. BuildsOf z len₂ rows₂ (node z v (at (functions z rows₂ len₂) low) (at (functions z rows₂ len₂) high)) v r len₃ rows₃) (d.inputs_kept ∙ e.inputs_kept) b
 
-  low_refused : (w len' : ℕ) (rows' : List Row) (e : StoreFault) → BuildsOf n len rows low_part w (Err e) len' rows' → BuildsOf n len rows whole v (Err e) len' rows'
+  pub low_refused : (w len' : ℕ) (rows' : List Row) (e : StoreFault) → BuildsOf n len rows low_part w (Err e) len' rows' → BuildsOf n len rows whole v (Err e) len' rows'
   unfolding Within
   low_refused w len' rows' Inputs y = y
   low_refused w len' rows' Bounds y = y

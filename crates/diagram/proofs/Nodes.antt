@@ -15,6 +15,9 @@ cofactor_free n v k b f free l p q = free k l b p q
 pub free_fewer : (n v w : ℕ) (f : Function) → w ≤ v → Free n v f → Free n w f
 free_fewer n v w f l free k m = free k (omega arith)
 
+pub free_same : (n v : ℕ) (f g : Function) → Same n f g → Free n v f → Free n v g
+free_same n v f g s free k l b p q = sym (s (with_bit (n - k) b p) (within n (n - k) b p (omega arith) q)) ∙ (free k l b p q ∙ s p q)
+
 pub free_never : (n v : ℕ) → Free n v never
 free_never n v k l b p q = refl
 

@@ -1,10 +1,19 @@
 -- The chains of rows: each row is linked to the newest earlier row of its chain, and each chain has a head, its newest row.
 use Rattle.std.specs.Prelude.{◌≡◌, ℕ, zero, suc, ◌+◌, ◌*◌, ◌%◌, ◌<◌, ◌≤◌, cond, List, length, Some, None, Option, ◌==◌, slice_index_or}
+use Rattle.diagram.specs.declared.link.Link.{Link}
 use Rattle.diagram.specs.declared.row.Node.{Node}
 use Rattle.diagram.specs.declared.row.Row.{Row}
 
+-- the link to no row
+abbrev pub no_link : Link
+no_link = record { handle = 0 }
+
+-- the handle of the row that a link leads to, if any
+abbrev pub handle_of : Link → Option ℕ
+handle_of l = cond (l.handle == 0) None (Some l.handle)
+
 abbrev pub blank : Row
-blank = record { node = record { variable = 0; low = 0; high = 0 }; next = None }
+blank = record { node = record { variable = 0; low = 0; high = 0 }; next = no_link }
 
 -- the row at a place
 abbrev pub row : List Row → ℕ → Row
@@ -20,13 +29,13 @@ newest rows b zero = None
 newest rows b (suc k) = cond (chain (row rows k).node == b) (Some (k + 2)) (newest rows b k)
 
 -- The heads and the links of the first len rows are right.
-pub record Chained (len : ℕ) (rows : List Row) (heads : List (Option ℕ)) : Type 0 where
+pub record Chained (len : ℕ) (rows : List Row) (heads : List Link) : Type 0 where
   pub many : length heads ≡ 1024
-  pub starts : (b : ℕ) → b < 1024 → slice_index_or heads b None ≡ newest rows b len
-  pub links : (k : ℕ) → k < len → (row rows k).next ≡ newest rows (chain (row rows k).node) k
+  pub starts : (b : ℕ) → b < 1024 → handle_of (slice_index_or heads b no_link) ≡ newest rows b len
+  pub links : (k : ℕ) → k < len → handle_of (row rows k).next ≡ newest rows (chain (row rows k).node) k
 
 -- The rows are found by their chains.
-pub record LinkedOf (len : ℕ) (rows : List Row) (heads : List (Option ℕ)) : Type 0 where
+pub record LinkedOf (len : ℕ) (rows : List Row) (heads : List Link) : Type 0 where
   pub within : len ≤ length rows
   pub bounded : length rows ≤ 4096
   pub chained : Chained len rows heads

@@ -1,7 +1,8 @@
 -- What rows stand for, and when they are reduced.
-use Rattle.std.specs.Prelude.{◌≡◌, ℕ, zero, suc, ◌+◌, ◌-◌, ◌<◌, ◌≤◌, Bool, cond, List, [], ◌∷◌, ◌++◌, Option}
+use Rattle.std.specs.Prelude.{◌≡◌, ℕ, zero, suc, ◌+◌, ◌-◌, ◌<◌, ◌≤◌, Bool, cond, List, [], ◌∷◌, ◌++◌}
 use Rattle.stores.specs.Functions.{Function, never, always, points, variable}
 use Rattle.stores.specs.Meaning.{at}
+use Rattle.diagram.specs.declared.link.Link.{Link}
 use Rattle.diagram.specs.declared.row.Row.{Row}
 use Rattle.diagram.specs.Chains.{row, LinkedOf}
 use Rattle.diagram.specs.Subfunctions.{with_bit}
@@ -41,7 +42,7 @@ pub record Reduced (n len : ℕ) (rows : List Row) : Type 0 where
   pub once : (j k : ℕ) → j < k → k < len → (row rows j).node ≡ (row rows k).node → ⊥
 
 -- What holds of a store of n inputs that uses the first len of its rows.
-pub record SoundOf (n len : ℕ) (rows : List Row) (heads : List (Option ℕ)) : Type 0 where
+pub record SoundOf (n len : ℕ) (rows : List Row) (heads : List Link) : Type 0 where
   pub few : n ≤ 12
   pub reduced : Reduced n len rows
   pub linked : LinkedOf len rows heads

@@ -5,6 +5,7 @@ ghost use Rattle.diagram.specs.Chains.{chain};
 ghost use Rattle.diagram.specs.Diagrams.{Standing, Later, Appended, Cut};
 
 use crate::diagram::Diagram;
+use crate::link::Link;
 use crate::row::{Node, Row};
 
 // The chain of a row with this node.
@@ -19,13 +20,13 @@ impl Diagram<'_> {
     pub(crate) fn find(&self, node: Node) -> Option<usize>
         ensures { Standing self.now node result }
     {
-        let mut link = self.heads[chain_of(node)];
+        let mut link = self.heads[chain_of(node)].handle();
         while let Some(h) = link {
             let row = self.rows[h as usize - 2];
             if row.node == node {
                 return Some(h as usize);
             }
-            link = row.next;
+            link = row.next.handle();
         }
         None
     }
@@ -42,7 +43,7 @@ impl Diagram<'_> {
         let b = chain_of(node);
         let next = self.heads[b];
         self.rows[len] = Row { node, next };
-        self.heads[b] = Some((len + 2) as u16);
+        self.heads[b] = Link::to((len + 2) as u16);
         self.len = len + 1;
     }
 

@@ -2,6 +2,7 @@
 ghost use Rattle.std.specs.Prelude.{◌≡◌, ◌<◌, ◌≤◌, min, length};
 ghost use Rattle.diagram.specs.Rows.{SoundOf};
 
+use crate::link::Link;
 use crate::row::{Node, Row};
 use stores::StoreFault;
 
@@ -12,11 +13,11 @@ use stores::StoreFault;
 pub struct Diagram<'a> {
     pub(crate) rows: &'a mut [Row],
     // the handle of each chain's newest row, in a table of fixed size: the store takes no memory of its own
-    pub(crate) heads: [Option<u16>; 1024],
+    pub(crate) heads: [Link; 1024],
     // how many rows are in use, beside them since their memory is lent
     pub(crate) len: usize,
     pub(crate) inputs: usize,
-    ghost sound: { SoundOf inputs len rows.now heads },
+    pub ghost sound: { SoundOf inputs len rows.now heads },
 }
 
 impl<'a> Diagram<'a> {
@@ -31,7 +32,7 @@ impl<'a> Diagram<'a> {
         let count = rows.len().min(4096);
         Diagram {
             rows: &mut rows[..count],
-            heads: [None; 1024],
+            heads: [Link::NONE; 1024],
             len: 0,
             inputs: 0,
         }

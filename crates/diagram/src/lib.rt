@@ -4,6 +4,7 @@
 mod chains;
 mod diagram;
 mod join;
+mod link;
 mod row;
 mod store;
 

@@ -1,5 +1,7 @@
 //! The rows of a diagram.
 
+use crate::link::Link;
+
 /// A variable, and the handles of what is left of a function where the variable is 0 and where it is 1.
 #[derive(Clone, Copy, Debug, PartialEq, Eq)]
 pub(crate) struct Node {
@@ -14,7 +16,7 @@ pub(crate) struct Node {
 #[derive(Clone, Copy, Debug, PartialEq, Eq)]
 pub struct Row {
     pub(crate) node: Node,
-    pub(crate) next: Option<u16>,
+    pub(crate) next: Link,
 }
 
 impl Row {
@@ -25,6 +27,6 @@ impl Row {
             low: 0,
             high: 0,
         },
-        next: None,
+        next: Link::NONE,
     };
 }

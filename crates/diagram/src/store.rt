@@ -3,6 +3,7 @@ ghost use Rattle.diagram.specs.Diagrams.{diagram_meaning};
 ghost use Rattle.diagram.specs.Subfunctions.{subfunctions};
 
 use crate::diagram::Diagram;
+use crate::link::Link;
 use stores::{Operation, Store, StoreFault};
 
 impl Store for Diagram<'_> {
@@ -16,7 +17,7 @@ impl Store for Diagram<'_> {
         }
         self.inputs = inputs;
         self.len = 0;
-        self.heads = [None; 1024];
+        self.heads = [Link::NONE; 1024];
         Ok(())
     }
 

@@ -20,7 +20,7 @@ module _ (m m' : Meaning) (k : ℕ) (inputs : m'.inputs ≡ m.inputs) (first : t
   same_at h l = sym (get_or-take k m'.held h never l) ∙ (ap (λ x. get_or x h never) first ∙ get_or-take k m.held h never l)
 
   -- ask the same
-  asked_same : (c : Call) → Fits m k c → asked m' c ≡ asked m c
+  pub asked_same : (c : Call) → Fits m k c → asked m' c ≡ asked m c
   asked_same (Join op f g) (l, r) = rw (same_at f l, same_at g r)
   asked_same (Flip f) l = rw (same_at f l)
   asked_same (Fix f b) l = rw (inputs, same_at f l)
@@ -33,7 +33,7 @@ fits_more m m' k k' i l (Fix f b) x = omega arith
 fits_more m m' k k' i l (Variable v) x = omega arith
 
 -- An entry stays right while the functions of its time are held.
-right_moved : (rule : Rule) (m m' : Meaning) (e : Entry) → m'.inputs ≡ m.inputs → take e.length m'.held ≡ take e.length m.held → e.length ≤ length m'.held → Right rule m e → Right rule m' e
+pub right_moved : (rule : Rule) (m m' : Meaning) (e : Entry) → m'.inputs ≡ m.inputs → take e.length m'.held ≡ take e.length m.held → e.length ≤ length m'.held → Right rule m e → Right rule m' e
 right_moved rule m m' e inputs first within r =
     let k = e.length in
     let same : asked m' e.call ≡ asked m e.call = asked_same m m' k inputs first e.call r.fits in

@@ -15,6 +15,7 @@ pub struct Entry {
 // The place of a call among the 64 entries, by its two numbers and the number of what it does. A fix has the bit as its
 // second number; a flip and a variable have 0. The documents name these numbers, and what a program prints depends on
 // them.
+#[inline(always)]
 #[tactic(auto, unfolding(crate::specs::Calls::place_of))]
 pub(crate) fn place(call: Call) -> usize
     ensures { (result ≡ place_of call) × (result < 64) }

@@ -14,7 +14,7 @@ pub struct Memo<S: Store> {
     pub(crate) below: S,
     // a table of fixed size: the memo takes no memory of its own
     pub(crate) entries: [Option<Entry>; 64],
-    ghost sound: { SoundMemo S.Store.keeping (S.Store.meaning below) entries } by { SoundMemo-prop S.Store.keeping (S.Store.meaning below) entries },
+    pub ghost sound: { SoundMemo S.Store.keeping (S.Store.meaning below) entries } by { SoundMemo-prop S.Store.keeping (S.Store.meaning below) entries },
 }
 
 impl<S: Store> Memo<S> {
@@ -39,6 +39,7 @@ impl<S: Store> Memo<S> {
     }
 
     // The answer of a call, if it is remembered.
+    #[inline(always)]
     fn recall(&self, call: Call) -> Option<usize>
         ensures { Recalled self.now.entries call result }
     {
@@ -47,7 +48,9 @@ impl<S: Store> Memo<S> {
     }
 
     // Answers a call by what is remembered of it, or else by the store below, and then remembers the answer in the
-    // place of what was remembered there.
+    // place of what was remembered there. Each method that calls it names its call, so there the place and the comparison
+    // are of that call alone.
+    #[inline(always)]
     pub(crate) fn answer(&mut self, call: Call) -> Result<usize, StoreFault>
         ensures asks { Asks S.Store.keeping (S.Store.meaning self.old.below) call result (S.Store.meaning self.new.below) }
         ensures memo { Memoized S.Store.keeping (S.Store.meaning self.old.below) call self.old.below self.old.entries result (S.Store.meaning self.new.below) self.new.below self.new.entries }
@@ -72,6 +75,8 @@ pub(crate) fn forget(entries: &mut [Option<Entry>], k: usize)
     ensures { Forgets k entries.old entries.new }
 {
     for entry in entries {
-        *entry = entry.filter(|entry| entry.length <= k);
+        if entry.is_some_and(|entry| entry.length > k) {
+            *entry = None;
+        }
     }
 }

@@ -61,7 +61,8 @@ fn main(rt: HostRuntime) -> anyhow::Result<()> {
     // the number of rows of each table
     let sizes = fs::read_to_string(&rt, "diagrams.rows")?;
     for (case, size) in sizes.as_str().lines().enumerate() {
-        print_diagram(&rt, case, size.parse::<usize>()?)?;
+        // a line that is no number stands for no rows
+        print_diagram(&rt, case, size.parse::<usize>().unwrap_or(0))?;
     }
     Ok(())
 }

@@ -84,6 +84,11 @@ pub count_new : (n : ℕ) (f : Function) (gs : List Function) → constant n f �
 unfolding count
 count_new n f gs c h = rw (c, h)
 
+-- one that is there already counts no more
+pub count_old : (n : ℕ) (f : Function) (gs : List Function) → has n f gs ≡ true → count n (f ∷ gs) ≡ count n gs
+unfolding count
+count_old n f gs h = elim (cases_Bool (constant n f)) [ inl c ↦ rw c | inr c ↦ rw (c, h) ]
+
 -- one more at the end counts as one more at the beginning
 pub has_push : (n : ℕ) (f h : Function) (gs : List Function) → has n h (gs ++ f ∷ []) ≡ has n h (f ∷ gs)
 unfolding has

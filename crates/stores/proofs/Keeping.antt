@@ -12,10 +12,13 @@ use Rattle.stores.specs.Functions.{Same, bit, points}
 use Rattle.stores.specs.Meaning.{Stands, Gained, has, at, Yields}
 use Rattle.stores.specs.Words.{of_word, listed, meaning_of, alone, SoundOf, Found, Reads}
 use Rattle.stores.proofs.Sames.{has_at, different_push, constants_differ}
-use Rattle.stores.proofs.WordBits.{word_always}
+use Rattle.stores.proofs.WordBits.{word_never, word_always}
 use Rattle.stores.proofs.Alone.{alone_keeps, gained_held, gained_alone}
 use Rattle.stores.proofs.Laws.{overfull_new}
 use Rattle.stores.proofs.Listed.{length_listed, at_listed, good_words, pushed, not_listed}
+
+pub means_zero : (n len : ℕ) (ws : List ℕ) (h : ℕ) → h ≡ 0 → Same n (at (listed len ws) h) (of_word 0)
+means_zero n len ws h e p l = rw e (sym (word_never n p l))
 
 pub means_one : (n len : ℕ) (ws : List ℕ) (h w : ℕ) → h ≡ 1 → w ≡ 2 ^ points n - 1 → Same n (at (listed len ws) h) (of_word w)
 means_one n len ws h w e f p l = rw (e, f) (sym (word_always n p l))

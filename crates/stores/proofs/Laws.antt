@@ -1,13 +1,13 @@
 -- How yields follow one another: what a client of a store composes.
 use Rattle.std.proofs.Common.{◌≡◌, ℕ, suc, ◌-◌, ◌<◌, ◌≤◌, true, false, List, [], ◌∷◌, ◌++◌, length, take, drop, IsErrAnd, Ok, Err, Result, sym, refl, ap, ◌∙◌, subst, inl, inr, append_assoc, append-nil, arith, length-append, take-append-drop, length-take}
-use Rattle.std.proofs.lemmas.List.{get_or_append_left}
+use Rattle.std.proofs.lemmas.List.{take-append-le, get_or_append_left, take_all}
 use Rattle.stores.specs.declared.fault.StoreFault.{StoreFault}
 use Rattle.stores.specs.declared.fault.StoreFault.TheVariants.{Inputs, Places, Bounds}
 use Rattle.std.specs.List.{AllZip}
 use Rattle.std.proofs.lemmas.Bool.{both_ways, or_cases, or_left, or_right, or_from, or_parts}
 use Rattle.stores.specs.Functions.{Function, never, always, Same, same, constant, joined}
 use Rattle.stores.specs.declared.operation.Operation.{Operation}
-use Rattle.stores.specs.Meaning.{Meaning, Rule, Keeps, Good, Grown, Gained, Overfull, Stands, has, different, count, kept, at, cut, Yields, Makes, Joins}
+use Rattle.stores.specs.Meaning.{Meaning, Rule, Keeps, Good, Grown, Gained, Overfull, Stands, has, different, count, kept, at, cut, Yields, Makes, Joins, Releases}
 use Rattle.stores.proofs.Sames.{same_tells, has_same, has_append, both_same, place_of, different_front, different_push}
 use Rattle.stores.proofs.Counts.{count_le, count_same, count_held, count_push, count_new}
 
@@ -103,8 +103,21 @@ stands_grown m m' h f g s =
 pub stands_held : (m : Meaning) (h : ℕ) → h < length m.held → Stands m h (at m.held h)
 stands_held m h l = record { within = l; means = λ p q. refl }
 
+-- A list that has grown and is cut again is as it was.
+pub cut_grown : (m m' : Meaning) → Grown m m' → cut m' (length m.held) ≡ m
+cut_grown m m' g =
+    let L = m.held in
+    let t : take (length L) m'.held ≡ L = ap (take (length L)) g.longer ∙ (take-append-le (length L) L g.added (omega arith) ∙ take_all (length L) L (omega arith)) in
+    let i = g.inputs_kept in
+    let o = g.most_kept in
+    let p = g.places_kept in
+    rw (i, o, p, t)
+
 pub grown_longer : (m m' : Meaning) → Grown m m' → length m.held ≤ length m'.held
 grown_longer m m' g = omega (arith, simp length-append at (ap length g.longer))
+
+pub held_two : (m : Meaning) → Good m → 2 ≤ length m.held
+held_two m g = omega (arith, ap length g.begins)
 
 -- whatever a call answers, the list has at most grown
 pub yields_grown : (rule : Rule) (m m' : Meaning) (P : Type 0) (fs : List Function) (f : Function) (r : Result ℕ StoreFault) → Yields rule m P fs f r m' → Grown m m'
@@ -159,7 +172,28 @@ join_next rule m m' m'' op fs i j f g r k a s t y =
     makes_next rule m m' m'' _ fs (joined op (at m'.held i) (at m'.held j)) (joined op f g) r k a (s.within, t.within)
     (joined_same m.inputs op (at m'.held i) f (at m'.held j) g (rw n at s.means) (rw n at t.means)) y
 
--- A store that is cut stays good.
+-- what a client's own run made, after a release that a refusal brings
+pub yields_from_made : (rule : Rule) (m m' : Meaning) (P : Type 0) (fs : List Function) (f : Function) (h : ℕ) → P → Makes rule m fs f (Ok h) m' → Yields rule m P fs f (Ok h) m'
+yields_from_made rule m m' P fs f h p y = (p, y.0, y.1)
+
+pub yields_from_refused : (rule : Rule) (m m' m'' : Meaning) (P : Type 0) (fs : List Function) (f : Function) (e : StoreFault) (r : Result Unit StoreFault) → P → Good m → Makes rule m fs f (Err e) m' → Releases m' (length m.held) r m'' → Yields rule m P fs f (Err e) m''
+yields_from_refused rule m m' m'' P fs f Inputs r p g y z = y
+yields_from_refused rule m m' m'' P fs f Bounds r p g y z = absurd y
+yields_from_refused rule m m' m'' P fs f Places (Ok _) p g y z = (p, y.0, z.2 ∙ cut_grown m m' y.1)
+yields_from_refused rule m m' m'' P fs f Places (Err Inputs) p g y z = absurd z
+yields_from_refused rule m m' m'' P fs f Places (Err Places) p g y z = absurd z
+yields_from_refused rule m m' m'' P fs f Places (Err Bounds) p g y z = absurd (z.0 (held_two m g, grown_longer m m' y.1))
+
+-- A store stays good, whatever is yielded, released or started.
+pub good_gained : (rule : Rule) (m m' : Meaning) (fs : List Function) → Good m → Gained rule m fs m' → Good m'
+good_gained rule m m' fs g a =
+    let n = a.grown.inputs_kept in
+    let b : m'.held ≡ never ∷ always ∷ (g.others ++ a.grown.added) = a.grown.longer ∙ ap (λ x. x ++ a.grown.added) g.begins in
+    let d : different m.inputs (never ∷ always ∷ (g.others ++ a.grown.added)) ≡ true = rw b at a.apart in
+    let k = ap (count m.inputs) b ∙ count_held m.inputs (g.others ++ a.grown.added) d in
+    let w = g.few in
+    record { others = g.others ++ a.grown.added; begins = b; apart = rw n a.apart; fits = omega (arith, a.fits, a.grown.places_kept); few = omega (arith, n, a.grown.most_kept) }
+
 pub good_cut : (m : Meaning) (k : ℕ) → Good m → 2 ≤ k → Good (cut m k)
 good_cut m k g l =
     let i : k ≡ suc (suc (k - 2)) = omega arith in
@@ -177,6 +211,13 @@ good_cut m k g l =
 -- Two handles of one function are one.
 pub stands_once : (m : Meaning) (h i : ℕ) (f : Function) → Good m → Stands m h f → Stands m i f → h ≡ i
 stands_once m h i f g s t = place_of m.inputs m.held h i g.apart s.within t.within (λ p l. s.means p l ∙ sym (t.means p l))
+
+-- The first two handles are those of false and true.
+pub stands_never : (m : Meaning) → Good m → Stands m 0 never
+stands_never m g = let t = held_two m g in record { within = omega arith; means = λ p l. ap (λ x. at x 0 p) g.begins }
+
+pub stands_always : (m : Meaning) → Good m → Stands m 1 always
+stands_always m g = let t = held_two m g in record { within = omega arith; means = λ p l. ap (λ x. at x 1 p) g.begins }
 
 -- a list of one
 in_one : (n : ℕ) (f g : Function) → has n g (f ∷ []) ≡ true → Same n g f
@@ -204,6 +245,9 @@ held_already rule m f good all =
             | inr y ↦ all g (sym (kept_one rule n f g) ∙ y)
           ]);
     }
+
+pub at_grown : (m m' : Meaning) (h : ℕ) → Grown m m' → h < length m.held → at m'.held h ≡ at m.held h
+at_grown m m' h g l = ap (λ x. at x h) g.longer ∙ get_or_append_left m.held g.added never h l
 
 -- What is gained depends on the functions that are kept alone.
 pub gained_as : (rule : Rule) (m m' : Meaning) (fs gs : List Function) → ((g : Function) → has m.inputs g (m.held ++ kept rule m.inputs fs) ≡ has m.inputs g (m.held ++ kept rule m.inputs gs)) → Gained rule m fs m' → Gained rule m gs m'

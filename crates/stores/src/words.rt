@@ -19,7 +19,7 @@ pub struct Words<'a> {
     words: &'a mut [u64],
     len: usize,
     inputs: usize,
-    ghost sound: { SoundOf inputs len words.now },
+    pub ghost sound: { SoundOf inputs len words.now },
 }
 
 impl<'a> Words<'a> {

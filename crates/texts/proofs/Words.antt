@@ -1,13 +1,29 @@
 -- How marks and patterns are written.
-use Rattle.std.proofs.Common.{◌≡◌, ℕ, ◌<◌, Bool, true, false, cond, ◌&&◌, eqb, leb, List, [], ◌∷◌, length, get_or, sym, refl, ap, ◌∙◌, arith}
-use Rattle.std.proofs.lemmas.List.{length-map, get_or-map}
-use Rattle.std.proofs.lemmas.Bool.{and_parts, ne_eqb, true≢false}
+use Rattle.std.proofs.Common.{◌≡◌, ℕ, ◌-◌, ◌<◌, Bool, true, false, cond, ◌&&◌, eqb, leb, List, [], ◌∷◌, length, get_or, take, drop, sym, refl, ap, ◌∙◌, arith}
+use Rattle.std.proofs.lemmas.List.{take_rest, length-map, get_or-map}
+use Rattle.std.proofs.lemmas.Bool.{and_parts, eq-eqb, ne_eqb, true≢false}
 use Rattle.circuits.specs.declared.literal.Literal.{Literal}
 use Rattle.circuits.specs.declared.literal.Literal.TheVariants.{Dash}
 use Rattle.circuits.specs.declared.name.Name.{Name}
 use Rattle.circuits.specs.Circuits.{name_bytes}
 use Rattle.circuits.specs.Names.{letter, letters, is_name}
 use Rattle.texts.specs.Fields.{marked_word, has_mark, past_mark, literal_byte, pattern_word}
+
+-- a field that begins with a mark
+pub record Marked (bs name : List ℕ) : Type 0 where
+  pub mark : true ≡ has_mark bs
+  pub rest : name ≡ past_mark bs
+  pub written : bs ≡ 33 ∷ name
+
+pub marked_front : (bs : List ℕ) → 0 < length bs → get_or bs 0 0 ≡ 33 → Marked bs (take (length bs - 1) (drop 1 bs))
+marked_front [] h e = absurd (omega arith)
+marked_front (b ∷ bs) h e =
+    let all : take (length (b ∷ bs) - 1) bs ≡ bs = take_rest (b ∷ bs) 1 in
+    record {
+      mark = sym (eq-eqb b 33 e);
+      rest = all ∙ ap (λ t. cond t bs (b ∷ bs)) (sym (eq-eqb b 33 e));
+      written = ap (λ x. x ∷ bs) e ∙ ap (λ x. 33 ∷ x) (sym all);
+    }
 
 -- A byte that is no literal spoils a pattern.
 pub bad_literal : (bs : List ℕ) (i : ℕ) → i < length bs → ((l : Literal) → get_or bs i 0 ≡ literal_byte l → ⊥) → (ls : List Literal) → bs ≡ pattern_word ls → ⊥

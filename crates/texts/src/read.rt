@@ -1,6 +1,7 @@
 //! Reading a design from its two texts.
-ghost use Rattle.std.specs.Prelude.{◌≡◌, ◌<◌, ◌≤◌, length, IfOk, IfErr, MatchResult, OnOk};
+ghost use Rattle.std.specs.Prelude.{◌≡◌, ◌<◌, ◌≤◌, true, length, IfOk, IfErr, MatchResult, OnOk};
 ghost use Rattle.circuits.specs.Drafts.{no_parts};
+ghost use Rattle.circuits.specs.Legality.{legal};
 ghost use Rattle.texts.specs.Reading.{most, too_long, Accepted, Refused, Told};
 ghost use Rattle.texts.specs.Writing.{Writes};
 
@@ -53,7 +54,10 @@ impl Reader {
         ensures exact { MatchResult result (λ _. Accepted netlist.now specification.now design.new) (λ f. Refused netlist.now specification.now f × (design.new ≡ design.old)) }
         ensures writing { OnOk result (Writes netlist.now specification.now design.new) }
         ensures told { IfErr result (λ f. Told netlist.now specification.now f) }
+        ensures lawful { legal design.new.circuit design.new.rows ≡ true }
     {
+        // What holds of every design is told by its counts.
+        let _ = design.counts();
         check_length(netlist, Text::Netlist)?;
         self.draft.clear();
         read_netlist(&mut self.draft, netlist)?;

@@ -25,7 +25,7 @@ fn count_ones(pins: &[Pin], stems: &[bool]) -> usize
     requires { pins_read (length stems.now) pins.now ≡ true }
     ensures { (g : ℕ) → result ≡ ones (received nothing g 0 stems.now pins.now) }
 {
-    pins.iter().filter(|pin| pin.get(stems)).count()
+    pins.iter().map(|pin| usize::from(pin.get(stems))).sum()
 }
 
 impl Gate {
@@ -41,6 +41,7 @@ impl Gate {
 
 impl Circuit {
     // The bits of the stems at an assignment, whose highest bit is the first input.
+    #[inline(always)]
     pub(crate) fn stem_bits(&self, assignment: usize) -> Short<bool, 76>
         requires inputs { length (net self.now).inputs ≤ 12 }
         requires gates { length (net self.now).gates ≤ 64 }

@@ -22,6 +22,7 @@ impl Design {
     }
 
     // The bits of the stems at an assignment.
+    #[inline(always)]
     pub(super) fn stem_bits(&self, assignment: usize) -> Short<bool, 76>
         ensures bits { entries result ≡ carried self.now.circuit assignment }
         ensures one_each { length (entries result) ≡ stem_count self.now.circuit }

@@ -2,7 +2,7 @@
 ghost use Rattle.std.specs.Prelude.{◌≡◌, true, length, IfOk};
 ghost use Rattle.circuits.specs.Circuits.{net, name_bytes};
 ghost use Rattle.circuits.specs.Drafts.{no_parts, with_input, with_gate, with_output, with_row, input_fault, gate_fault, output_fault, row_fault, whole_fault, Unless};
-ghost use Rattle.circuits.specs.Legality.{drafted, position, stem_names, output_names};
+ghost use Rattle.circuits.specs.Legality.{drafted, legal, position, stem_names, output_names};
 
 use crate::circuit::Circuit;
 use crate::design::Design;
@@ -100,7 +100,8 @@ impl Draft {
 
     /// Adds an input. It is refused after any other part, past the twelfth, and where its name is taken.
     pub fn add_input(&mut self, name: Name) -> Result<(), PartFault>
-        ensures { Unless (input_fault self.old name) (self.new ≡ with_input self.old name) (self.new ≡ self.old) result }
+        ensures added { Unless (input_fault self.old name) (self.new ≡ with_input self.old name) (self.new ≡ self.old) result }
+        ensures lawful { drafted self.new.circuit self.new.rows ≡ true }
     {
         if !self.circuit.gates.is_empty()
             || !self.circuit.outputs.is_empty()
@@ -121,7 +122,8 @@ impl Draft {
     /// Adds a gate. It is refused after an output or a row, past the 64th, where its name is taken or a pin reads
     /// a stem that does not stand, and where the number of its pins does not fit its kind.
     pub fn add_gate(&mut self, gate: Gate) -> Result<(), PartFault>
-        ensures { Unless (gate_fault self.old gate) (self.new ≡ with_gate self.old gate) (self.new ≡ self.old) result }
+        ensures added { Unless (gate_fault self.old gate) (self.new ≡ with_gate self.old gate) (self.new ≡ self.old) result }
+        ensures lawful { drafted self.new.circuit self.new.rows ≡ true }
     {
         if !self.circuit.outputs.is_empty() || !self.rows.is_empty() {
             return Err(PartFault::Order);
@@ -142,7 +144,8 @@ impl Draft {
     /// Adds an output. It is refused after a row, past the sixteenth, and where its name is taken or it reads a
     /// stem that does not stand.
     pub fn add_output(&mut self, output: Output) -> Result<(), PartFault>
-        ensures { Unless (output_fault self.old output) (self.new ≡ with_output self.old output) (self.new ≡ self.old) result }
+        ensures added { Unless (output_fault self.old output) (self.new ≡ with_output self.old output) (self.new ≡ self.old) result }
+        ensures lawful { drafted self.new.circuit self.new.rows ≡ true }
     {
         if !self.rows.is_empty() {
             return Err(PartFault::Order);
@@ -162,7 +165,8 @@ impl Draft {
     /// Adds a row. It is refused past the 256th, where there is no such output, where its pattern has not one
     /// literal for each input, and where it contradicts an earlier row.
     pub fn add_row(&mut self, row: SpecRow) -> Result<(), PartFault>
-        ensures { Unless (row_fault self.old row) (self.new ≡ with_row self.old row) (self.new ≡ self.old) result }
+        ensures added { Unless (row_fault self.old row) (self.new ≡ with_row self.old row) (self.new ≡ self.old) result }
+        ensures lawful { drafted self.new.circuit self.new.rows ≡ true }
     {
         if self.rows.len() >= 256 {
             return Err(PartFault::Limit);
@@ -182,8 +186,12 @@ impl Draft {
 
     /// Hands the design over and takes what was there in exchange. It is refused where there is no input or no output.
     pub fn complete(&mut self, design: &mut Design) -> Result<(), PartFault>
-        ensures { Unless (whole_fault self.old) ((design.new ≡ self.old) × (self.new ≡ design.old)) ((design.new ≡ design.old) × (self.new ≡ self.old)) result }
+        ensures exchanged { Unless (whole_fault self.old) ((design.new ≡ self.old) × (self.new ≡ design.old)) ((design.new ≡ design.old) × (self.new ≡ self.old)) result }
+        ensures lawful { drafted self.new.circuit self.new.rows ≡ true }
+        ensures whole { legal design.new.circuit design.new.rows ≡ true }
     {
+        // A use of the design, by which the proof knows its rules.
+        let _ = &design.draft;
         if self.circuit.inputs.is_empty() || self.circuit.outputs.is_empty() {
             return Err(PartFault::Limit);
         }

@@ -23,11 +23,11 @@ impl Pattern {
     fn covers(&self, assignment: usize) -> bool
         ensures { result ≡ covers (literal_list self.now) assignment }
     {
-        self.as_slice()
-            .iter()
-            .rev()
-            .enumerate()
-            .all(|(k, literal)| literal.matches((assignment >> k) % 2 == 1))
+        let literals = self.as_slice();
+        let inputs = literals.len();
+        literals.iter().enumerate().all(|(i, literal)| literal.matches(
+            (assignment >> (inputs - 1 - i)) % 2 == 1,
+        ))
     }
 }
 

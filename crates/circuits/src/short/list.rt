@@ -48,11 +48,12 @@ impl<T: Blank, const N: usize> Short<T, N> {
     pub fn push(&mut self, entry: T) -> Result<(), Full>
         ensures { MatchResult result (λ _. (length (entries self.old) < N) × (entries self.new ≡ entries self.old ++ entry ∷ [])) (λ _. (length (entries self.old) ≡ N) × (self.new ≡ self.old)) }
     {
-        if self.len == N {
+        let len = self.len;
+        if len == N {
             return Err(Full);
         }
-        self.table[self.len] = entry;
-        self.len += 1;
+        self.table[len] = entry;
+        self.len = len + 1;
         Ok(())
     }
 

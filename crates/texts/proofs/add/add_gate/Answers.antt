@@ -24,12 +24,12 @@ same c =
 pub returns-in_err-add_gate : goal.returns-in_err-add_gate
 returns-in_err-add_gate c =
     let p = err_from_is_err_and c.from_residual-in_err-add_gate.result c.from_residual-in_err-add_gate.ensures.1 in
-    let told = c.in_err-add_gate.ensures in
+    let told = c.in_err-add_gate.ensures.added in
     rw (p.1, p.2) (same (goal.at.returns-in_err-add_gate c).In_ok-pins ∙ ap (option_map cause_of) told.0, told.1)
 
 pub returns : goal.returns
 returns c =
-    let told = c.in_ok-add_gate.ensures in (
+    let told = c.in_ok-add_gate.ensures.added in (
       same (goal.at.returns c).In_ok-pins ∙ ap (option_map cause_of) told.0,
       record { gate = made (goal.at.returns c).In_ok-pins; named = refl; of_kind = refl; with_pins = c.in_ok-pins.ensures; added = told.1 },
     )

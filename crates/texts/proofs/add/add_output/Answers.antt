@@ -22,12 +22,12 @@ same c =
 pub returns-in_err-add_output : goal.returns-in_err-add_output
 returns-in_err-add_output c =
     let p = err_from_is_err_and c.from_residual-in_err-add_output.result c.from_residual-in_err-add_output.ensures.1 in
-    let told = c.in_err-add_output.ensures in
+    let told = c.in_err-add_output.ensures.added in
     rw (p.1, p.2) (same (goal.at.returns-in_err-add_output c).In_ok-stem ∙ ap (option_map cause_of) told.0, told.1)
 
 pub returns : goal.returns
 returns c =
-    let told = c.in_ok-add_output.ensures in (
+    let told = c.in_ok-add_output.ensures.added in (
       same (goal.at.returns c).In_ok-stem ∙ ap (option_map cause_of) told.0,
       record { output = made (goal.at.returns c).In_ok-stem; named = refl; marked = refl; reads = sym c.stem.ensures ∙ c.in_ok-stem.ensures.ok_part; added = told.1 },
     )

@@ -45,7 +45,7 @@ written c = record { output = c.in_ok-output.output; pattern = c.in_ok-pattern.p
 pub returns-in_err-add_row : goal.returns-in_err-add_row
 returns-in_err-add_row c =
     let p = err_from_is_err_and c.from_residual-in_err-add_row.result c.from_residual-in_err-add_row.ensures.1 in
-    let told = c.in_err-add_row.ensures in
+    let told = c.in_err-add_row.ensures.added in
     rw (p.1, p.2) (
       row_refused c.args.draft.now (name_bytes c.args.output.now) c.args.pattern.now c.args.value.now (written (goal.at.returns-in_err-add_row c).In_ok-value)
           (omega arith) (sym c.output.ensures ∙ c.in_ok-output.ensures.ok_part) (MatchOption-at_some _ _ _ c.in_ok-pattern.ensures.ok_part c.pattern_of.ensures) (MatchOption-at_some _ _ _ c.in_ok-value.ensures.ok_part c.value_of.ensures) _ told.0,
@@ -54,6 +54,6 @@ returns-in_err-add_row c =
 
 pub returns : goal.returns
 returns c =
-    let told = c.in_ok-add_row.ensures in
+    let told = c.in_ok-add_row.ensures.added in
     row_added c.args.draft.now (name_bytes c.args.output.now) c.args.pattern.now c.args.value.now (written (goal.at.returns c).In_ok-value)
     (omega arith) (sym c.output.ensures ∙ c.in_ok-output.ensures.ok_part) (MatchOption-at_some _ _ _ c.in_ok-pattern.ensures.ok_part c.pattern_of.ensures) (MatchOption-at_some _ _ _ c.in_ok-value.ensures.ok_part c.value_of.ensures) _ told.0 told.1

@@ -17,3 +17,8 @@ invariant_of-self c =
     let d = parts c.self.inside.circuit c.self.inside.rows in
     let k = drafted_from _ _ (input_added d c.args.name (rules _ _ c.self.invariant.lawful) (no_fault c)) in
     record { lawful = rw c.push_reserved.ensures.items k; room = rw c.push_reserved.ensures.capacity c.self.invariant.room }
+
+pub returns-clause-lawful : goal.returns-clause-lawful
+returns-clause-lawful c =
+    let d = parts c.self.inside.circuit c.self.inside.rows in
+    rw c.push_reserved.ensures.items (drafted_from _ _ (input_added d c.args.name (rules _ _ c.self.invariant.lawful) (no_fault c)))

@@ -1,15 +1,21 @@
-use Rattle.std.proofs.Common.{arith}
+use Rattle.std.proofs.Common.{refl, arith}
 use Rattle.circuits.proofs.Fronts.{front, entries_length, front_from, front_more, front_list}
 use Rattle.circuits.proofs.short.Short.push.Goals as goal
 
-pub offset_bounds-self-self : goal.offset_bounds-self-self
-offset_bounds-self-self g c = let f = front c.args.self.now in omega arith
+-- a full list is left as it is
+pub returns-then-len : goal.returns-then-len
+returns-then-len g c =
+    let e = entries_length c.args.self.now in
+    (omega arith, refl)
+
+pub offset_bounds-self-len : goal.offset_bounds-self-len
+offset_bounds-self-len g c = let f = front c.args.self.now in omega arith
 
 pub listed : goal.listed
 listed g c = let f = front c.args.self.now in omega arith
 
-pub bounds-self-self : goal.bounds-self-self
-bounds-self-self g c = let f = front c.args.self.now in omega arith
+pub bounds-self-len : goal.bounds-self-len
+bounds-self-len g c = let f = front c.args.self.now in omega arith
 
 pub overflow_add-self : goal.overflow_add-self
 overflow_add-self g c = let f = front c.args.self.now in omega (arith, g.N.fits)

@@ -13,12 +13,13 @@ pub returns-then-eq : goal.returns-then-eq
 returns-then-eq c = walk_found c.loop-link.invariant c.in-Some.is (search rules)
 
 pub loop-link-smaller : goal.loop-link-smaller
-loop-link-smaller c = walk_falls c.args.self.now.sound.linked.chained c.loop-link.invariant c.in-Some.is
+loop-link-smaller c = rw c.handle-link-in-Some.ensures (walk_falls c.args.self.now.sound.linked.chained c.loop-link.invariant c.in-Some.is)
 
 pub loop-link-preserved : goal.loop-link-preserved
 loop-link-preserved c =
-    walk_on c.args.self.now.sound.linked.chained c.loop-link.invariant c.in-Some.is
-    (λ e. false≢true (sym c.if-eq.false ∙ (rw e at c.eq.ensures ∙ node_itself c.args.node)))
+    rw c.handle-link-in-Some.ensures
+    (walk_on c.args.self.now.sound.linked.chained c.loop-link.invariant c.in-Some.is
+    (λ e. false≢true (sym c.if-eq.false ∙ (rw e at c.eq.ensures ∙ node_itself c.args.node))))
 
 pub returns : goal.returns
 returns c = walk_ends c.loop-link.invariant (search rules)
