@@ -21,7 +21,7 @@ src 'for [a-z_]+ in .*\.\.|while ' | show 3 'loops over a range, and while loops
 src '^impl.* (PartialEq|Eq|PartialOrd|Ord|Clone|Copy|Hash|Default|Debug|([a-z]+::)?Display|From<.*>|TryFrom<.*>) for ' | show 4 'impls of comparing, copying, converting and printing'
 src '== [a-z_.]+ && .* == |fn is\(|fn [a-z]+_of\(.*Option<|_letter\(.*->|Operation::[A-Z][a-z]* => Action' | show 4 'comparing, converting and printing by hand'
 grep -rhoE --include='*.rt' 'requires( [a-z]+)? \{ [A-Za-z.]+ ' crates/*/src | sed -E 's/requires( [a-z]+)? //' | sort | uniq -c | awk '$1 > 2' | show 5 'facts that three or more contracts require'
-src 'len: usize|\[[A-Za-z0-9<>]+; [0-9A-Z]+\]' | show 6 'lengths, and tables of fixed size'
+src 'len: usize|\[[A-Za-z0-9<>:]+; [0-9A-Z]+\]' | show 6 'lengths, and tables of fixed size'
 src 'match (name|word|kind|call|action|step|op|\(op)' | show 7 'switches by name, kind or operation'
 find crates/*/proofs -name 'Answers.antt' | xargs cat | grep -E '^pub ' | show 8 'answers'
 find crates/*/proofs -maxdepth 1 -name '*.antt' | xargs cat | grep -E '^ *pub [a-z]' | grep -v 'pub mod' | show 8 'lemmas and definitions for proofs'

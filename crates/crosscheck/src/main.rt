@@ -115,7 +115,7 @@ fn print_texts(rt: &HostRuntime) -> anyhow::Result<()> {
 fn print_calls(rt: &HostRuntime) -> anyhow::Result<()> {
     for places in [0, 1, 2, 5, 12, 4096] {
         let path = format!(in rt.alloc(); "{places}.calls")?;
-        // told without its cause
+        // stderr has these words alone, without the cause
         let table = fs::read_to_string(rt, path.as_str())
             .ok()
             .context("a table is missing")?;

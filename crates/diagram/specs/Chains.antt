@@ -6,11 +6,11 @@ use Rattle.diagram.specs.declared.row.Row.{Row}
 
 -- the link to no row
 abbrev pub no_link : Link
-no_link = record { handle = 0 }
+no_link = record { raw = 0 }
 
 -- the handle of the row that a link leads to, if any
 abbrev pub handle_of : Link → Option ℕ
-handle_of l = cond (l.handle == 0) None (Some l.handle)
+handle_of l = cond (l.raw == 0) None (Some l.raw)
 
 abbrev pub blank : Row
 blank = record { node = record { variable = 0; low = 0; high = 0 }; next = no_link }

@@ -48,8 +48,8 @@ impl<S: Store> Memo<S> {
     }
 
     // Answers a call by what is remembered of it, or else by the store below, and then remembers the answer in the
-    // place of what was remembered there. Each method that calls it names its call, so there the place and the comparison
-    // are of that call alone.
+    // place of what was remembered there. Inlined, as `recall` and `place`: each method names the kind of its call, so it
+    // looks at that kind alone.
     #[inline(always)]
     pub(crate) fn answer(&mut self, call: Call) -> Result<usize, StoreFault>
         ensures asks { Asks S.Store.keeping (S.Store.meaning self.old.below) call result (S.Store.meaning self.new.below) }

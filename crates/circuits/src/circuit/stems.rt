@@ -41,6 +41,7 @@ impl Gate {
 
 impl Circuit {
     // The bits of the stems at an assignment, whose highest bit is the first input.
+    // It is worked out at each assignment, so it is inlined: the list is not moved from function to function.
     #[inline(always)]
     pub(crate) fn stem_bits(&self, assignment: usize) -> Short<bool, 76>
         requires inputs { length (net self.now).inputs ≤ 12 }

@@ -21,7 +21,7 @@ impl Design {
         1 << self.draft.inputs()
     }
 
-    // The bits of the stems at an assignment.
+    // The bits of the stems at an assignment, inlined as what it calls.
     #[inline(always)]
     pub(super) fn stem_bits(&self, assignment: usize) -> Short<bool, 76>
         ensures bits { entries result ≡ carried self.now.circuit assignment }

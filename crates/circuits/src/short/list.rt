@@ -48,6 +48,7 @@ impl<T: Blank, const N: usize> Short<T, N> {
     pub fn push(&mut self, entry: T) -> Result<(), Full>
         ensures { MatchResult result (λ _. (length (entries self.old) < N) × (entries self.new ≡ entries self.old ++ entry ∷ [])) (λ _. (length (entries self.old) ≡ N) × (self.new ≡ self.old)) }
     {
+        // The length is read once: behind the write to the table it would be read from memory again.
         let len = self.len;
         if len == N {
             return Err(Full);

@@ -1,12 +1,6 @@
-use Rattle.std.proofs.Common.{refl, arith}
+use Rattle.std.proofs.Common.{arith}
 use Rattle.circuits.proofs.Fronts.{front, entries_length, front_from, front_more, front_list}
 use Rattle.circuits.proofs.short.Short.push.Goals as goal
-
--- a full list is left as it is
-pub returns-then-len : goal.returns-then-len
-returns-then-len g c =
-    let e = entries_length c.args.self.now in
-    (omega arith, refl)
 
 pub offset_bounds-self-len : goal.offset_bounds-self-len
 offset_bounds-self-len g c = let f = front c.args.self.now in omega arith
